@@ -1,0 +1,4 @@
+pub mod Counting
+pub mod Inheriting
+pub mod Places
+pub mod Words

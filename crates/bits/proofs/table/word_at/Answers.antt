@@ -1,0 +1,6 @@
+use Rattle.bits.proofs.table.word_at.Needs as need
+use Rattle.std.proofs.shelf.Lists.{getD-past}
+use mathlib.Core.Path.{sym}
+
+pub returns-else-i-words : need.returns-else-i-words
+returns-else-i-words c = sym (getD-past (c .args .words .now) (c .args .i) 0 (c .if-i-words .left))

@@ -1,0 +1,6 @@
+pub mod Applying
+pub mod Closing
+pub mod Growing
+pub mod Listing
+pub mod Members
+pub mod Reading

@@ -1,0 +1,4 @@
+pub mod Entries
+pub mod Growth
+pub mod Passes
+pub mod Tables

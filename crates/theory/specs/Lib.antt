@@ -1,0 +1,4 @@
+pub mod Closure
+pub mod Lists
+pub mod Results
+pub mod Worlds

@@ -1,0 +1,7 @@
+-- Lists by their members.
+use mathlib.Core.List.{List, [], _∷_}
+
+-- every member has the property
+abbrev pub All : {A : Type 0} → (A → Type 0) → List A → Type 0
+All P [] = Unit {0}
+All P (x ∷ xs) = P x × All P xs
