@@ -12,7 +12,11 @@ use Rattle.distinct.specs.declared.Put.the-variants.{Added, Full, Stands}
 use Rattle.std.proofs.shelf.Lists.{drop-all}
 use Rattle.std.proofs.shelf.Tests.{cases-lt, false≢true}
 use Rattle.std.specs.Orderings.{Decides}
+use Rattle.std.specs.Places.{Some-of}
+use Rattle.theory.proofs.Laws.{lawful}
+use Rattle.theory.specs.Clashes.{Lawful}
 use Rattle.theory.specs.Lists.{All}
+use Rattle.vocabulary.specs.Families.{Takes}
 use Rattle.vocabulary.specs.Ranges.{BasicFits, DirectedFits, RuleFits}
 use Rattle.vocabulary.specs.declared.basic.Basic.{Basic}
 use Rattle.vocabulary.specs.declared.basic.Basic.the-variants.{Named, Start}
@@ -22,8 +26,8 @@ use Rattle.vocabulary.specs.declared.rules.Family.{Family}
 use Rattle.vocabulary.specs.declared.rules.Rule.{Rule}
 use Rattle.vocabulary.specs.declared.rules.Rule.the-variants.{Within, Apart, LinkWithin, LinkApart, Single}
 use lib.ListN.{drop, getD, length, length-drop, length-take, take}
-use mathlib.Core.Bool.{Bool}
-use mathlib.Core.HLevel.{×-prop}
+use mathlib.Core.Bool.{Bool, true, false}
+use mathlib.Core.HLevel.{×-prop, ⊥-prop}
 use mathlib.Core.List.{List, [], _∷_, _++_, List·Memᴰ}
 use mathlib.Core.Logic.{_≢_, inl, inr, ∥∥₁-elim}
 use mathlib.Core.Path.{_≡_, refl, sym, ap, _∙_, subst}
@@ -39,6 +43,11 @@ absent-not rules rule h m = let (i, l, e) = place-of m in false≢true (h i rule
 
 pub present-member : (rules : List Rule) (rule : Rule) → Present Same rules rule → List·Memᴰ rule rules
 present-member rules rule (i, l, e) = subst (λ (r : Rule). List·Memᴰ r rules) (e rule .0 refl) (member-at rules i rule l)
+
+-- what `contains` answers
+pub member-told : (rules : List Rule) (rule : Rule) (r : Bool) → Some-of (λ y. Same y rule) rules r → Decides r (List·Memᴰ rule rules)
+member-told rules rule true h = (λ _. present-member rules rule h, λ _. refl)
+member-told rules rule false h = (λ e. absurd (false≢true e), λ m. absurd (absent-not rules rule (λ k d l. h k d (omega arith) l) m))
 
 pub different-none : Different []
 different-none i j r h = absurd (let l = h .1 in omega arith)
@@ -95,3 +104,12 @@ room-left n xs e h =
 
 pub full-length : {A : Type 0} (n : ℕ) (xs : List A) → length xs ≡ 256 → drop n xs ≡ [] → length (take n xs) ≡ 256
 full-length n xs e h = omega (arith, length-take n xs, length-drop n xs, ap length h)
+
+-- ---- that rules are lawful, likewise
+
+all-taken : (family : Family) (rules : List Rule) → All (Admitted family) rules → All (Takes family) rules
+all-taken family [] h = tt
+all-taken family (r ∷ rules) h = (h .0 .taken, all-taken family rules (h .1))
+
+pub all-lawful : (family : Family) (rules : List Rule) → ∥ All (Admitted family) rules ∥₁ → Lawful rules
+all-lawful family rules h d e m s = ∥∥₁-elim h ⊥-prop (λ all. lawful family rules (all-taken family rules all) d e m s)

@@ -4,3 +4,4 @@ pub mod book;
 mod closure;
 pub mod draft;
 pub mod pass;
+mod reach;

@@ -18,6 +18,8 @@ pub(crate) enum Call {
     Rule(Written),
     /// Seals the draft.
     Seal,
+    /// Asks the sealed book whether a rule follows from it.
+    Follows(Written),
 }
 
 impl Call {
@@ -28,6 +30,7 @@ impl Call {
             Some("family") => Call::Family(words.code(Expected::FamilyCode)?),
             Some("rule") => Call::Rule(Written::read(&mut words)?),
             Some("seal") => Call::Seal,
+            Some("follows") => Call::Follows(Written::read(&mut words)?),
             _ => return Err(Expected::Call),
         };
         words.end()?;

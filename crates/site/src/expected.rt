@@ -9,7 +9,7 @@ pub(crate) enum Expected {
     Call,
     /// `family` has no number.
     FamilyCode,
-    /// `rule` has neither a code nor `link`.
+    /// A rule begins with neither a code nor `link`.
     RuleStart,
     /// The first basic class stands in no relation.
     ClassRelation,
@@ -23,6 +23,8 @@ pub(crate) enum Expected {
     End,
     /// No draft was opened.
     Opening,
+    /// A draft was asked for what follows.
+    Sealing,
     /// A rule came after the book was sealed.
     OpeningForRule,
     /// The book is sealed already.
@@ -32,9 +34,9 @@ pub(crate) enum Expected {
 impl Expected {
     fn text(self) -> &'static str {
         match self {
-            Expected::Call => "expected `family`, `rule` or `seal`",
+            Expected::Call => "expected `family`, `rule`, `seal` or `follows`",
             Expected::FamilyCode => "expected a number after `family`",
-            Expected::RuleStart => "expected a code or `link` after `rule`",
+            Expected::RuleStart => "expected a code or `link` at the start of the rule",
             Expected::ClassRelation => "expected `within` or `apart` after the first code",
             Expected::SecondCode => "expected a second code after `within` or `apart`",
             Expected::LinkCode => "expected a code after `link`",
@@ -42,6 +44,7 @@ impl Expected {
                 "expected `within`, `apart` or `single` after the code of the link",
             Expected::End => "expected the end of the line after the call",
             Expected::Opening => "expected `family 0` or `family 1` first",
+            Expected::Sealing => "the draft is not sealed, expected `seal` before `follows`",
             Expected::OpeningForRule => "the book is sealed, expected `family` before another rule",
             Expected::OpeningForSeal => "the book is sealed, expected `family` before another seal",
         }

@@ -22,6 +22,7 @@ pub(crate) struct Line<'a> {
 pub(crate) enum Answer {
     Done,
     Entered(Effect),
+    Follows(bool),
     Refused(Fault),
 }
 
@@ -33,6 +34,8 @@ pub(crate) impl fmt::Display for Answer as AnswerDisplay {
                 let n = effect.number();
                 write!(f, "{n}")
             }
+            Answer::Follows(true) => f.write_str("yes"),
+            Answer::Follows(false) => f.write_str("no"),
             Answer::Refused(fault) => {
                 let n = fault.number();
                 write!(f, "fault {n}")

@@ -7,6 +7,7 @@ ghost use lib.ListN.{length};
 ghost use Rattle.site.specs.Sections.{OpensIn, OpensPast, StopsFrom};
 ghost use Rattle.std.specs.Vec.{made};
 use crate::calls::Call;
+use crate::calls::Written;
 use crate::closure;
 use crate::expected::Expected;
 use crate::opening::Opening;
@@ -140,6 +141,7 @@ fn drafting(
                 report.answer(line, answer)?;
             }
             Ok(Call::Seal) => return Ok(Stop::Seal(i)),
+            Ok(Call::Follows(_)) => report.error(line, Expected::Sealing)?,
             Err(expected) => report.error(line, expected)?,
         }
     }
@@ -149,6 +151,16 @@ fn drafting(
 fn entered(result: Result<Effect, Fault>) -> Answer {
     match result {
         Ok(effect) => Answer::Entered(effect),
+        Err(fault) => Answer::Refused(fault),
+    }
+}
+
+fn followed(book: &Book, written: Written) -> Answer {
+    match written.rule() {
+        Ok(rule) => match book.follows(rule) {
+            Ok(yes) => Answer::Follows(yes),
+            Err(fault) => Answer::Refused(fault),
+        },
         Err(fault) => Answer::Refused(fault),
     }
 }
@@ -176,6 +188,7 @@ fn sealed(
             }
             Ok(Call::Rule(_)) => report.error(line, Expected::OpeningForRule)?,
             Ok(Call::Seal) => report.error(line, Expected::OpeningForSeal)?,
+            Ok(Call::Follows(written)) => report.answer(line, followed(&book, written))?,
             Err(expected) => report.error(line, expected)?,
         }
     }
@@ -201,11 +214,11 @@ mod tests {
             &rt,
             "famly 0\nfamily\nfamily -1\nrule\nrule x apart 2\nrule 0 beside 2\nrule 0 within\nrule link\n\
              rule link 3\nrule link 3 apart 1x\nrule link 3 single 1\nseal 0",
-            "famly 0 => error: line 1: expected `family`, `rule` or `seal`\n\
+            "famly 0 => error: line 1: expected `family`, `rule`, `seal` or `follows`\n\
              family => error: line 2: expected a number after `family`\n\
              family -1 => error: line 3: expected a number after `family`\n\
-             rule => error: line 4: expected a code or `link` after `rule`\n\
-             rule x apart 2 => error: line 5: expected a code or `link` after `rule`\n\
+             rule => error: line 4: expected a code or `link` at the start of the rule\n\
+             rule x apart 2 => error: line 5: expected a code or `link` at the start of the rule\n\
              rule 0 beside 2 => error: line 6: expected `within` or `apart` after the first code\n\
              rule 0 within => error: line 7: expected a second code after `within` or `apart`\n\
              rule link => error: line 8: expected a code after `link`\n\
@@ -232,14 +245,16 @@ mod tests {
     fn goes_on_after_an_error(rt: LibcRuntime) -> Result<(), Fail> {
         answers(
             &rt,
-            "family 0\nrule 0 apart 2\nrule 0 apart\nrule 0 apart 2\nseal\nrule 1 apart 2\nseal\nfamily 1\nseal\n",
+            "family 0\nrule 0 apart 2\nrule 0 apart\nfollows 0 apart 2\nrule 0 apart 2\nseal\nrule 1 apart 2\nfollows 0 apart 2\nseal\nfamily 1\nseal\n",
             "family 0 => ok\n\
              rule 0 apart 2 => 1\n\
              rule 0 apart => error: line 3: expected a second code after `within` or `apart`\n\
+             follows 0 apart 2 => error: line 4: the draft is not sealed, expected `seal` before `follows`\n\
              rule 0 apart 2 => 0\n\
              seal => closure 0-2\n\
-             rule 1 apart 2 => error: line 6: the book is sealed, expected `family` before another rule\n\
-             seal => error: line 7: the book is sealed, expected `family` before another seal\n\
+             rule 1 apart 2 => error: line 7: the book is sealed, expected `family` before another rule\n\
+             follows 0 apart 2 => yes\n\
+             seal => error: line 9: the book is sealed, expected `family` before another seal\n\
              family 1 => ok\n\
              seal => closure\n",
         )

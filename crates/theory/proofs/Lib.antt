@@ -1,2 +1,14 @@
+pub mod Blame
+pub mod Canonical
+pub mod Clashing
+pub mod Closed
+pub mod Decisions
 pub mod Exclusions
+pub mod Follows
+pub mod Laws
 pub mod Lists
+pub mod Numbering
+pub mod Reached
+pub mod Steps
+pub mod Things
+pub mod Ways

@@ -3,6 +3,8 @@ use Rattle.book.proofs.Reading.{never, told}
 use Rattle.book.proofs.book.Book.classes_apart.Needs as need
 use Rattle.book.proofs.book.Book.classes_apart.Needs.{then-not-fits·by·then-not-fits, then-not-fits·by·else-not-fits·then-not-fits-2}
 use Rattle.std.proofs.shelf.Tests.{both-ways}
+use Rattle.theory.proofs.Closed.{excluded}
+use Rattle.theory.specs.Closure.{classes}
 use Rattle.vocabulary.proofs.Codes.{basic-below}
 use Rattle.vocabulary.specs.Codes.{basic-code}
 use mathlib.Core.Path.{refl, sym}
@@ -25,7 +27,7 @@ returns c =
     let j = c .index-2 .result in
     let hx = c .if-not-fits .ensures tt .0 refl in
     let hy = c .if-not-fits-2 .ensures tt .0 refl in
-    told (c .related .result) (c .args .self .now .closed)
+    told (c .related .result) (excluded (c .args .self .now .family) (c .args .self .now .rules .now) (classes x y)) (c .args .self .now .closed)
     (λ h o. h .of-classes x y hx hy .0 (on-at 2 i j 2 (basic-code x) (basic-code y) refl (c .index .ensures) (c .index-2 .ensures) words o .set))
     (λ h e. on-at 2 (basic-code x) (basic-code y) 2 i j refl (sym (c .index .ensures)) (sym (c .index-2 .ensures)) words
     (record { row = basic-below x hx; column = basic-below y hy; set = h .of-classes x y hx hy .1 e }))

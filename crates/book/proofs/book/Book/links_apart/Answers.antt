@@ -3,6 +3,8 @@ use Rattle.book.proofs.Reading.{never, told}
 use Rattle.book.proofs.book.Book.links_apart.Needs as need
 use Rattle.book.proofs.book.Book.links_apart.Needs.{then-not-fits·by·then-not-fits, then-not-fits·by·else-not-fits·then-not-fits-2}
 use Rattle.std.proofs.shelf.Tests.{both-ways}
+use Rattle.theory.proofs.Closed.{excluded}
+use Rattle.theory.specs.Closure.{links}
 use Rattle.vocabulary.proofs.Codes.{directed-below}
 use Rattle.vocabulary.specs.Codes.{directed-code}
 use mathlib.Core.Path.{refl, sym}
@@ -25,7 +27,7 @@ returns c =
     let j = c .index-2 .result in
     let hx = c .if-not-fits .ensures tt .0 refl in
     let hy = c .if-not-fits-2 .ensures tt .0 refl in
-    told (c .related .result) (c .args .self .now .closed)
+    told (c .related .result) (excluded (c .args .self .now .family) (c .args .self .now .rules .now) (links x y)) (c .args .self .now .closed)
     (λ h o. h .of-links x y hx hy .0 (on-at 1 i j 1 (directed-code x) (directed-code y) refl (c .index .ensures) (c .index-2 .ensures) words o .set))
     (λ h e. on-at 1 (directed-code x) (directed-code y) 1 i j refl (sym (c .index .ensures)) (sym (c .index-2 .ensures)) words
     (record { row = directed-below x hx; column = directed-below y hy; set = h .of-links x y hx hy .1 e }))
