@@ -1,5 +1,5 @@
 -- How many bits of a table are not set: with more bits set, fewer are not.
-use Prim.Native.Nat.{ℕ, zero, suc, _+_, _*_, _<_, _≤_}
+use Prim.Native.Nat.{ℕ, zero, suc, _*_, _<_, _≤_}
 use Rattle.bits.specs.Words.{Marked, bit, misses, unset}
 use Rattle.std.proofs.shelf.Tests.{cases-eq, false≢true}
 use lib.ListN.{length}

@@ -1,11 +1,11 @@
 -- What setting bits does to a table as a relation.
-use Prim.Native.Nat.{ℕ, _+_, _*_, _/_, _%_, _<_, _≤_}
+use Prim.Native.Nat.{ℕ, _+_, _*_, _/_, _%_, _<_}
 use Rattle.bits.proofs.Counting.{marked-le, marked-lt}
 use Rattle.bits.proofs.Places.{pair-bit, place-same, place-inside}
 use Rattle.bits.proofs.Words.{bit-or, bit-zeros}
 use Rattle.bits.specs.Relations.{pair, On, Symmetric, Joined, Inherited, base, flip, pass, Grows, Covers}
-use Rattle.bits.specs.Words.{Marked, bit, bit-of, unset, word}
-use Rattle.std.proofs.shelf.Tests.{cases-eq, cases-bool, both-ways, false≢true, true≢false, or-cases, or-left, or-parts}
+use Rattle.bits.specs.Words.{Marked, bit, bit-of, word}
+use Rattle.std.proofs.shelf.Tests.{cases-eq, cases-bool, false≢true, true≢false, or-cases, or-left, or-parts}
 use lib.Bits.{bitOr}
 use lib.ListN.{length, replicate}
 use mathlib.Core.Bool.{Bool, true, false, _||_}

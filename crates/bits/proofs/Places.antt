@@ -1,14 +1,10 @@
 -- Rows and columns of a table, and what one bit that is set changes of them.
-use Prim.Native.Nat.{ℕ, _+_, _*_, _/_, _%_, _<_, _≤_}
-use Rattle.bits.proofs.Words.{bit-zeros}
-use Rattle.bits.specs.Relations.{pair, On}
-use Rattle.bits.specs.Words.{Marked, bit, bit-of, word}
+use Prim.Native.Nat.{ℕ, _+_, _*_, _/_, _<_}
+use Rattle.bits.specs.Relations.{pair}
+use Rattle.bits.specs.Words.{bit, bit-of, word}
 use Rattle.std.proofs.shelf.Bits.{div-mul-add, mul-add-lt}
-use lib.ListN.{length, replicate}
-use mathlib.Core.Bool.{Bool, true, false}
 use mathlib.Core.List.{List}
-use mathlib.Core.Logic.{_≢_}
-use mathlib.Core.Path.{_≡_, refl, sym, ap, ap₂, _∙_}
+use mathlib.Core.Path.{_≡_, sym, ap, ap₂, _∙_}
 use native.Mathlib.Nat.{mul-comm, mul-assoc}
 use native.Mathlib.Omega.{arith}
 

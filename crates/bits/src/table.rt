@@ -1,6 +1,5 @@
 //! The bits of a lent table of 64-bit words: bit m is bit m % 64, lowest bit 0, of word m / 64.
 
-ghost use Prim.Native.Nat.{ℕ};
 ghost use Rattle.bits.specs.Words.{Marked, bit, word};
 ghost use denote.Ref.{now};
 ghost use lib.ListN.{length, replicate};

@@ -2,10 +2,10 @@
 use Prim.Native.Nat.{ℕ, _+_, _<_}
 use Rattle.book.proofs.Growing.{went-like, went-then}
 use Rattle.book.proofs.Members.{member-at}
-use Rattle.book.specs.Growth.{ClassOn, ClassStep, ClassesPass, Done, DoneFirst, EmptyKnown, EmptyKnownBelow, LinkOn, LinkStep, LinksPass, Went}
+use Rattle.book.specs.Growth.{ClassStep, ClassesPass, Done, DoneFirst, EmptyKnown, EmptyKnownBelow, LinkOn, LinkStep, LinksPass, Went}
 use Rattle.std.proofs.shelf.Lists.{getD-default}
 use Rattle.std.proofs.shelf.Tests.{cases-eq}
-use Rattle.theory.specs.Closure.{Excluded, link-apart, link-narrow, link-turn, links, classes, narrow-end, narrow-start}
+use Rattle.theory.specs.Closure.{Excluded, link-apart, link-narrow, link-turn, links, narrow-end, narrow-start}
 use Rattle.vocabulary.proofs.Codes.{turn-turn}
 use Rattle.vocabulary.specs.Codes.{turn}
 use Rattle.vocabulary.specs.declared.basic.Basic.the-variants.{Start}

@@ -1,22 +1,20 @@
 -- Tables to which no rule and no link has anything to add hold the whole exclusion closure.
-use Prim.Native.Nat.{ℕ, _<_}
+use Prim.Native.Nat.{ℕ}
 use Rattle.bits.proofs.Inheriting.{symmetric-on}
-use Rattle.bits.specs.Relations.{On, Symmetric, pair}
+use Rattle.bits.specs.Relations.{Symmetric, pair}
 use Rattle.book.proofs.Members.{place-of}
-use Rattle.book.specs.Growth.{AllDone, AllFit, ClassOn, ClassesPass, Done, EmptyKnown, LinkOn, LinksPass, Sound}
-use Rattle.book.specs.Tables.{Holds-closure, class-bit, link-bit}
+use Rattle.book.specs.Growth.{AllDone, ClassOn, Done, EmptyKnown, LinkOn, Sound}
+use Rattle.book.specs.Tables.{Holds-closure}
 use Rattle.theory.specs.Closure.{Exclusion, Excluded, apart, classes, empty-link, link-apart, link-empty, link-narrow, link-swap, link-turn, links, narrow, narrow-end, narrow-start, other-end, swap}
 use Rattle.vocabulary.proofs.Codes.{basic-below, directed-below, turn-fits, turn-turn}
 use Rattle.vocabulary.specs.Codes.{basic-code, directed-code, turn}
-use Rattle.vocabulary.specs.Ranges.{BasicFits, DirectedFits, RuleFits}
+use Rattle.vocabulary.specs.Ranges.{DirectedFits}
 use Rattle.vocabulary.specs.declared.basic.Basic.{Basic}
 use Rattle.vocabulary.specs.declared.basic.Basic.the-variants.{Start}
 use Rattle.vocabulary.specs.declared.basic.Directed.{Directed}
 use Rattle.vocabulary.specs.declared.basic.Directed.the-variants.{Forward, Backward}
 use Rattle.vocabulary.specs.declared.rules.Family.{Family}
 use Rattle.vocabulary.specs.declared.rules.Rule.{Rule}
-use Rattle.vocabulary.specs.declared.rules.Rule.the-variants.{Within, Apart, LinkWithin, LinkApart}
-use lib.ListN.{length}
 use mathlib.Core.List.{List, List·Memᴰ}
 use mathlib.Core.Path.{_≡_, refl, subst}
 

@@ -1,7 +1,6 @@
 -- Steps of the two tables: from codes to classes and links, and one after another.
-use Prim.Native.Nat.{ℕ, _+_, _*_, _<_, _≤_}
+use Prim.Native.Nat.{ℕ, _*_, _<_}
 use Rattle.bits.specs.Relations.{Covers, Grows, Inherited, Joined, On, base, flip, pass}
-use Rattle.bits.specs.Words.{unset}
 use Rattle.book.specs.Growth.{ClassOn, ClassStep, ClassesPass, LinkOn, LinkStep, LinksPass, Sound, Went}
 use Rattle.std.proofs.shelf.Tests.{false≢true, or-cases, or-parts}
 use Rattle.theory.specs.Closure.{Excluded, classes, link-swap, links, swap}

@@ -30,7 +30,7 @@ use mathlib.Core.Bool.{Bool, true, false}
 use mathlib.Core.HLevel.{×-prop, ⊥-prop}
 use mathlib.Core.List.{List, [], _∷_, _++_, List·Memᴰ}
 use mathlib.Core.Logic.{_≢_, inl, inr, ∥∥₁-elim}
-use mathlib.Core.Path.{_≡_, refl, sym, ap, _∙_, subst}
+use mathlib.Core.Path.{_≡_, refl, sym, ap, subst}
 use native.Mathlib.Bridge.{le-prop}
 use native.Mathlib.Omega.{arith}
 

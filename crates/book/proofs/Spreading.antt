@@ -1,7 +1,7 @@
 -- Marks that spread along the within rules.
-use Prim.Native.Nat.{ℕ, _+_, _*_, _<_, _≤_}
+use Prim.Native.Nat.{ℕ, _+_, _*_, _<_}
 use Rattle.bits.proofs.Counting.{marked-le, marked-lt}
-use Rattle.bits.specs.Words.{Marked, bit, unset}
+use Rattle.bits.specs.Words.{Marked, bit}
 use Rattle.book.proofs.Members.{member-at, place-of}
 use Rattle.book.specs.Reach.{AllReached, Led, LedBy, LedFirst, NodeFits, NodeOn, NodeStep, Settled, Spreads, class-step, link-step, node-code}
 use Rattle.book.specs.declared.reach.Node.{Node}

@@ -1,6 +1,6 @@
 -- What the two closure tables of a book hold: 256 words for basic classes, two to a row, and 64 for directed links, one to a row.
 use Prim.Native.Nat.{ℕ}
-use Rattle.bits.specs.Relations.{On, pair}
+use Rattle.bits.specs.Relations.{pair}
 use Rattle.std.specs.Orderings.{Decides}
 use Rattle.theory.specs.Closure.{Excluded, classes, links}
 use Rattle.vocabulary.specs.Codes.{basic-code, directed-code}

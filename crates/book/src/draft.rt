@@ -1,7 +1,7 @@
 //! A draft of a book, which takes rules until it is sealed.
 
 ghost use Rattle.book.specs.Entries.{Admitted, Different, Entered, left-free};
-ghost use Rattle.book.specs.Passes.{Sized, Tested};
+ghost use Rattle.book.specs.Passes.{Sized};
 ghost use Rattle.book.specs.Tables.{Holds-closure};
 ghost use Rattle.distinct.specs.Items.{items, spare};
 ghost use Rattle.theory.specs.Lists.{All};

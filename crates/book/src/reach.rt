@@ -1,14 +1,13 @@
 //! What the within rules lead to: marks on basic classes and directed links, until no rule adds one.
 
-ghost use Prim.Native.Nat.{ℕ};
 ghost use Rattle.book.specs.Growth.{AllFit};
-ghost use Rattle.book.specs.Reach.{AllReached, Led, LedBy, LedFirst, NodeFits, NodeOn, NodeStep, Settled, Spreads, node-code};
+ghost use Rattle.book.specs.Reach.{Led, LedBy, LedFirst, NodeFits, NodeStep, Settled, Spreads, node-code};
 ghost use Rattle.std.specs.Orderings.{Decides};
 ghost use Rattle.theory.specs.Reaching.{Reaches};
 ghost use Rattle.vocabulary.specs.Ranges.{DirectedFits, RuleFits};
 ghost use denote.Ref.{now};
 ghost use lib.ListN.{length};
-ghost use mathlib.Core.List.{List, List·Memᴰ};
+ghost use mathlib.Core.List.{List·Memᴰ};
 ghost use mathlib.Core.Path.{_≡_};
 use bits::table::Bits;
 use bits::table::get;

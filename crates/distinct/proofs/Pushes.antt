@@ -1,9 +1,9 @@
 -- A list without repeats stays one where an absent element comes to its end.
-use Prim.Native.Nat.{ℕ, _+_, _<_, _≤_}
+use Prim.Native.Nat.{_+_, _<_}
 use Rattle.distinct.specs.Repeats.{Absent, NoRepeats}
 use Rattle.std.proofs.shelf.Lists.{getD-append-left, getD-push, length-push}
 use Rattle.std.proofs.shelf.Tests.{cases-lt}
-use lib.ListN.{length, getD}
+use lib.ListN.{length}
 use mathlib.Core.Bool.{Bool}
 use mathlib.Core.List.{List, [], _∷_, _++_}
 use mathlib.Core.Logic.{inl, inr}

@@ -6,7 +6,7 @@ use Rattle.distinct.specs.declared.Put.{Put}
 use Rattle.distinct.specs.declared.Put.the-variants.{Added, Stands, Full}
 use lib.ListN.{drop}
 use mathlib.Core.Bool.{Bool}
-use mathlib.Core.List.{List, [], _∷_, _++_}
+use mathlib.Core.List.{[], _∷_, _++_}
 use mathlib.Core.Logic.{_≢_}
 use mathlib.Core.Path.{_≡_}
 

@@ -3,7 +3,6 @@
 ghost use lib.ListN.{length};
 ghost use mathlib.Core.List.{[]};
 ghost use mathlib.Core.Path.{_≡_};
-ghost use Prim.Native.Nat.{ℕ};
 ghost use Rattle.std.specs.Orderings.{When};
 ghost use Rattle.distinct.specs.Items.{items, spare};
 ghost use Rattle.distinct.specs.Puts.{Outcome};

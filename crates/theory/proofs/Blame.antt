@@ -9,10 +9,9 @@ use Rattle.theory.specs.Results.{Blame, To-blame}
 use Rattle.theory.specs.Worlds.{SiteWorld}
 use Rattle.vocabulary.specs.Ranges.{FactFits}
 use Rattle.vocabulary.specs.declared.facts.Fact.{Fact}
-use Rattle.vocabulary.specs.declared.rules.Family.{Family}
 use Rattle.vocabulary.specs.declared.rules.Family.the-variants.{R}
 use Rattle.vocabulary.specs.declared.rules.Rule.{Rule}
-use mathlib.Core.List.{List, [], _∷_, List·Memᴰ, List·Memᴰ·head, List·Memᴰ·tail, List·Memᴰ·not-nil, List·Memᴰ·eq-of-singleton}
+use mathlib.Core.List.{List, [], _∷_, List·Memᴰ·head, List·Memᴰ·tail, List·Memᴰ·not-nil, List·Memᴰ·eq-of-singleton}
 use mathlib.Core.Logic.{inl, inr, by-cases}
 use mathlib.Core.Path.{refl, subst₂}
 

@@ -2,12 +2,11 @@
 use Rattle.theory.proofs.Lists.{each}
 use Rattle.theory.proofs.Steps.{turned, unturned, keeps-climbs, reaches, link-reaches, has-link, has-at}
 use Rattle.theory.specs.Clashes.{linked, Clash, at-one, across-one, two-partners}
-use Rattle.theory.specs.Closure.{Exclusion, classes, links, Excluded, swap, link-swap, link-turn, apart, link-apart, narrow, narrow-start, narrow-end, link-narrow, other-end, empty-link, link-empty}
+use Rattle.theory.specs.Closure.{Exclusion, Excluded, swap, link-swap, link-turn, apart, link-apart, narrow, narrow-start, narrow-end, link-narrow, other-end, empty-link, link-empty}
 use Rattle.theory.specs.Following.{Implied}
 use Rattle.theory.specs.Lists.{All}
 use Rattle.theory.specs.Results.{Disjoint}
-use Rattle.theory.specs.Worlds.{Shape, Pair, In, Keeps, Has, World, shape, Follows}
-use Rattle.vocabulary.specs.Codes.{turn}
+use Rattle.theory.specs.Worlds.{Shape, Keeps, Has, World, shape, Follows}
 use Rattle.vocabulary.specs.Ranges.{NameFits, FactFits}
 use Rattle.vocabulary.specs.declared.basic.Directed.{Directed}
 use Rattle.vocabulary.specs.declared.basic.Directed.the-variants.{Forward, Backward}

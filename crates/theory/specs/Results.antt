@@ -1,5 +1,5 @@
 -- The theorems; each is the contract of a function of this crate.
-use Rattle.theory.specs.Clashes.{Calm, Clash, Lawful}
+use Rattle.theory.specs.Clashes.{Calm, Lawful}
 use Rattle.theory.specs.Closure.{Exclusion, Excluded, classes, links}
 use Rattle.theory.specs.Following.{Implied}
 use Rattle.theory.specs.Lists.{All}

@@ -1,13 +1,11 @@
 -- Codes are in range and tell directed links and basic classes in range apart; turning twice is nothing.
-use Prim.Native.Nat.{ℕ, _+_, _<_}
+use Prim.Native.Nat.{ℕ, _<_}
 use Rattle.vocabulary.specs.Codes.{turn, directed-code, basic-code}
 use Rattle.vocabulary.specs.Ranges.{DirectedFits, BasicFits}
 use Rattle.vocabulary.specs.declared.basic.Basic.{Basic}
 use Rattle.vocabulary.specs.declared.basic.Basic.the-variants.{Named, Start}
 use Rattle.vocabulary.specs.declared.basic.Directed.{Directed}
 use Rattle.vocabulary.specs.declared.basic.Directed.the-variants.{Forward, Backward}
-use Rattle.vocabulary.specs.declared.numbers.Class.{Class}
-use Rattle.vocabulary.specs.declared.numbers.Link.{Link}
 use mathlib.Core.Path.{_≡_, refl, ap}
 use native.Mathlib.Omega.{arith}
 

@@ -1,4 +1,4 @@
-use Prim.Native.Nat.{ℕ, _+_}
+use Prim.Native.Nat.{_+_}
 use Rattle.book.proofs.Growing.{on-at, went-given}
 use Rattle.book.proofs.closure.spread_end.Needs as need
 use Rattle.book.specs.Growth.{ClassOn}

@@ -1,6 +1,6 @@
 use Rattle.book.proofs.Spreading.{sofar-none, sofar-then}
 use Rattle.book.proofs.reach.settle.Needs as need
-use mathlib.Core.Path.{refl, _∙_}
+use mathlib.Core.Path.{_∙_}
 
 pub loop-holds : need.loop-holds
 loop-holds c = sofar-none

@@ -1,6 +1,5 @@
 use Rattle.bits.specs.Words.{unset}
 use Rattle.book.proofs.reach.settle.Given as given
-use Rattle.book.specs.Reach.{Spreads}
 use Rattle.book.proofs.Spreading.{Sofar}
 use denote.Ref.{now}
 

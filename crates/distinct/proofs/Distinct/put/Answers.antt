@@ -5,8 +5,7 @@ use Rattle.distinct.proofs.Pushes.{no-repeats-push}
 use Rattle.distinct.specs.Repeats.{Absent, NoRepeats}
 use Rattle.std.proofs.shelf.Lists.{take-more-set, drop-set-lt, drop-drop, drop-all}
 use lib.ListN.{length, take, length-set}
-use mathlib.Core.List.{List}
-use mathlib.Core.Path.{_≡_, refl, sym, _∙_, subst}
+use mathlib.Core.Path.{refl, sym, _∙_, subst}
 use native.Mathlib.Omega.{arith}
 
 pub returns-then-n-self : need.returns-then-n-self

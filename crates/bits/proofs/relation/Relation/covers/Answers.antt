@@ -1,4 +1,4 @@
-use Prim.Native.Nat.{ℕ, _+_, _*_, _<_}
+use Prim.Native.Nat.{ℕ, _+_, _*_}
 use Rattle.bits.proofs.Inheriting.{row-covers}
 use Rattle.bits.proofs.relation.Relation.covers.Needs as need
 use Rattle.bits.specs.Relations.{Covers}

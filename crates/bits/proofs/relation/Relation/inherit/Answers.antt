@@ -1,7 +1,7 @@
 use Prim.Native.Nat.{ℕ, _*_, _<_}
 use Rattle.bits.proofs.Inheriting.{grows-none, inherits-then}
 use Rattle.bits.proofs.relation.Relation.inherit.Needs as need
-use Rattle.bits.specs.Relations.{Covers, Grows, Inherited, On, base}
+use Rattle.bits.specs.Relations.{Grows, Inherited, On, base}
 use borrow.Author.Count.{below-more}
 use mathlib.Core.Path.{refl, _∙_, subst}
 use native.Mathlib.Omega.{arith}

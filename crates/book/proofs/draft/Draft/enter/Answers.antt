@@ -1,11 +1,10 @@
-use Prim.Native.Nat.{_≤_, _<_}
 use Rattle.book.proofs.Listing.{Same, absent-not, all-put, different-repeats, full-length, present-member, repeats-different, room-left}
 use Rattle.book.proofs.draft.Draft.enter.Needs as need
 use Rattle.book.specs.Entries.{Admitted, book-full, not-of-family, out-of-range}
 use Rattle.distinct.specs.Items.{items}
 use Rattle.std.proofs.shelf.Tests.{false≢true}
 use mathlib.Core.Logic.{∥∥₁-map}
-use mathlib.Core.Path.{refl, sym, _∙_}
+use mathlib.Core.Path.{refl, _∙_}
 
 pub returns-then-not-fits : need.returns-then-not-fits
 returns-then-not-fits c = record {

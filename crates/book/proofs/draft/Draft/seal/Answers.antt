@@ -2,7 +2,7 @@ use Prim.Native.Nat.{ℕ, _*_}
 use Rattle.book.proofs.Listing.{all-fit}
 use Rattle.book.proofs.draft.Draft.seal.Needs as need
 use Rattle.book.specs.Entries.{Admitted, Different}
-use Rattle.book.specs.Growth.{AllFit, table}
+use Rattle.book.specs.Growth.{AllFit}
 use Rattle.book.specs.Tables.{Holds-closure}
 use Rattle.distinct.specs.Items.{items}
 use Rattle.theory.specs.Lists.{All}

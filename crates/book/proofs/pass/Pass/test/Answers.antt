@@ -1,4 +1,3 @@
-use Prim.Native.Nat.{ℕ}
 use Rattle.book.proofs.pass.Pass.test.Needs as need
 use Rattle.book.specs.Passes.{TestFault, no-family, no-length}
 use Rattle.std.proofs.shelf.Results.{err-from-errBy}
