@@ -5,8 +5,9 @@ use Rattle.book.proofs.Members.{member-at}
 use Rattle.book.specs.Growth.{ClassStep, ClassesPass, Done, DoneFirst, EmptyKnown, EmptyKnownBelow, LinkOn, LinkStep, LinksPass, Went}
 use Rattle.std.proofs.shelf.Lists.{getD-default}
 use Rattle.std.proofs.shelf.Tests.{cases-eq}
-use Rattle.theory.specs.Closure.{Excluded, link-apart, link-narrow, link-turn, links, narrow-end, narrow-start}
-use Rattle.vocabulary.proofs.Codes.{turn-turn}
+use Rattle.theory.proofs.Reached.{link-narrow-step, turned-excluded, turned-step}
+use Rattle.theory.specs.Reaching.{along}
+use Rattle.theory.specs.Closure.{Excluded, link-apart, link-narrow, links, narrow-end, narrow-start}
 use Rattle.vocabulary.specs.Codes.{turn}
 use Rattle.vocabulary.specs.declared.basic.Basic.the-variants.{Start}
 use Rattle.vocabulary.specs.declared.basic.Directed.{Directed}
@@ -19,20 +20,8 @@ use lib.ListN.{getD, length}
 use mathlib.Core.Bool.{Bool, _||_}
 use mathlib.Core.List.{List, List·Memᴰ}
 use mathlib.Core.Logic.{inl, inr}
-use mathlib.Core.Path.{_≡_, sym, subst}
+use mathlib.Core.Path.{_≡_, sym, subst, subst₂}
 use native.Mathlib.Omega.{arith}
-
--- links turned round are the same pair
-pub turned-back : {family : Family} {rules : List Rule} (d e : Directed) → Excluded family rules (links d e) → Excluded family rules (links (turn d) (turn e))
-turned-back {family} {rules} d e h =
-    link-turn (subst (λ (f : Directed). Excluded family rules (links f (turn (turn e)))) (sym (turn-turn d))
-    (subst (λ (f : Directed). Excluded family rules (links d f)) (sym (turn-turn e)) h))
-
-narrow-turned : {family : Family} {rules : List Rule} {d e : Directed} → List·Memᴰ (LinkWithin d e) rules → (f : Directed) → Excluded family rules (links (turn e) f) → Excluded family rules (links (turn d) f)
-narrow-turned {family} {rules} {d} {e} m f h =
-    let back : Excluded family rules (links e (turn f)) =
-    subst (λ (g : Directed). Excluded family rules (links g (turn f))) (turn-turn e) (turned-back (turn e) f h) in
-    subst (λ (g : Directed). Excluded family rules (links (turn d) g)) (turn-turn f) (turned-back d (turn f) (link-narrow m back))
 
 module _ (d e td te : Directed) (dt : td ≡ turn d) (et : te ≡ turn e) {r : Bool} {q : Bool} where
   -- two calls, for a pair of links apart and for the two turned round
@@ -44,14 +33,11 @@ module _ (d e td te : Directed) (dt : td ≡ turn d) (et : te ≡ turn e) {r : B
       (went-like (λ family rules m. link-apart m) (λ x. x) v)
       (went-like {C = λ _ words. LinkOn words td te}
       (λ family rules m. subst (λ (f : Directed). Excluded family rules (links f te)) (sym dt)
-      (subst (λ (f : Directed). Excluded family rules (links (turn d) f)) (sym et) (turned-back d e (link-apart m))))
+      (subst (λ (f : Directed). Excluded family rules (links (turn d) f)) (sym et) (turned-excluded d e (link-apart m))))
       (λ x. subst (λ (f : Directed). LinkOn t″ f (turn e)) dt (subst (λ (f : Directed). LinkOn t″ td f) et x)) w)
 
 -- four calls, for a link within another
 module _ (d e td te : Directed) (dt : td ≡ turn d) (et : te ≡ turn e) where
-  along-turns : (P : Directed → Directed → Type 0) → P td te → P (turn d) (turn e)
-  along-turns P h = subst (λ (f : Directed). P (turn d) f) et (subst (λ (f : Directed). P f te) dt h)
-
   pub within-turned : {r q o p : Bool} {b b′ b″ t t′ t″ : List ℕ} → Went (ClassStep (Start d) (Start e)) (λ words _. ClassesPass words (Start d) (Start e)) r b t b′ t →
       Went (ClassStep (Start td) (Start te)) (λ words _. ClassesPass words (Start td) (Start te)) q b′ t b″ t →
       Went (LinkStep d e) (λ _ words. LinksPass words d e) o b″ t b″ t′ →
@@ -65,10 +51,10 @@ module _ (d e td te : Directed) (dt : td ≡ turn d) (et : te ≡ turn e) where
       (went-then {C = λ words _. ClassesPass words (Start d) (Start e)} {D = λ words _. ClassesPass words (Start (turn d)) (Start (turn e))} (λ i j. (i, j))
       (went-like (λ family rules m c h. narrow-start m h) (λ i. i) u)
       (went-like (λ family rules m c h. narrow-end m h) (λ i. i)
-      (along-turns (λ f g. Went (ClassStep (Start f) (Start g)) (λ words _. ClassesPass words (Start f) (Start g)) q b′ t b″ t) v)))
+      (subst₂ (λ (f g : Directed). Went (ClassStep (Start f) (Start g)) (λ words _. ClassesPass words (Start f) (Start g)) q b′ t b″ t) dt et v)))
       (went-like (λ family rules m f h. link-narrow m h) (λ i. i) w))
-      (went-like (λ family rules m f h. narrow-turned m f h) (λ i. i)
-      (along-turns (λ f g. Went (LinkStep f g) (λ _ words. LinksPass words f g) p b″ t′ b″ t″) x))
+      (went-like (λ family rules m f h. link-narrow-step (turned-step (along m)) h) (λ i. i)
+      (subst₂ (λ (f g : Directed). Went (LinkStep f g) (λ _ words. LinksPass words f g) p b″ t′ b″ t″) dt et x))
 
 -- ---- every rule in turn
 

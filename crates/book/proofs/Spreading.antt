@@ -22,7 +22,7 @@ use lib.ListN.{getD, length}
 use mathlib.Core.Bool.{Bool, true, false, _||_}
 use mathlib.Core.List.{List, List·Memᴰ}
 use mathlib.Core.Logic.{inl, inr}
-use mathlib.Core.Path.{_≡_, refl, sym, ap, _∙_, subst}
+use mathlib.Core.Path.{_≡_, refl, sym, ap, _∙_, subst, subst₂}
 use native.Mathlib.Omega.{arith}
 
 pub node-below : (n : Node) → NodeFits n → node-code n < 192
@@ -132,9 +132,6 @@ sofar-then {rules} a b = record {
 
 -- four calls, for a link within another
 module _ (d e td te : Directed) (dt : td ≡ turn d) (et : te ≡ turn e) where
-  along-turns : (P : Directed → Directed → Type 0) → P td te → P (turn d) (turn e)
-  along-turns P h = subst (λ (f : Directed). P (turn d) f) et (subst (λ (f : Directed). P f te) dt h)
-
   pub led-turned : {r q o p : Bool} {s t u v w : List ℕ} → Spreads (λ rules. NodeStep rules (Class (Start d)) (Class (Start e))) (Led (Class (Start d)) (Class (Start e))) r s t →
       Spreads (λ rules. NodeStep rules (Class (Start td)) (Class (Start te))) (Led (Class (Start td)) (Class (Start te))) q t u →
       Spreads (λ rules. NodeStep rules (Link d) (Link e)) (Led (Link d) (Link e)) o u v →
@@ -147,10 +144,10 @@ module _ (d e td te : Directed) (dt : td ≡ turn d) (et : te ≡ turn e) where
       (spreads-then {C = Led (Class (Start d)) (Class (Start e))} {D = Led (Class (Start (turn d))) (Class (Start (turn e)))} (λ i j. (i, j))
       (spreads-like {C = Led (Class (Start d)) (Class (Start e))} (λ rules m. class-step (by-link (along m))) (λ i. i) a)
       (spreads-like {C = Led (Class (Start (turn d))) (Class (Start (turn e)))} (λ rules m. class-step (by-link (turned-step (along m)))) (λ i. i)
-      (along-turns (λ f g. Spreads (λ rules. NodeStep rules (Class (Start f)) (Class (Start g))) (Led (Class (Start f)) (Class (Start g))) q t u) b)))
+      (subst₂ (λ (f g : Directed). Spreads (λ rules. NodeStep rules (Class (Start f)) (Class (Start g))) (Led (Class (Start f)) (Class (Start g))) q t u) dt et b)))
       (spreads-like {C = Led (Link d) (Link e)} (λ rules m. link-step (along m)) (λ i. i) c))
       (spreads-like {C = Led (Link (turn d)) (Link (turn e))} (λ rules m. link-step (turned-step (along m))) (λ i. i)
-      (along-turns (λ f g. Spreads (λ rules. NodeStep rules (Link f) (Link g)) (Led (Link f) (Link g)) p v w) x))
+      (subst₂ (λ (f g : Directed). Spreads (λ rules. NodeStep rules (Link f) (Link g)) (Led (Link f) (Link g)) p v w) dt et x))
 
 led-more : (rules : List Rule) (i : ℕ) (d : Rule) (t : List ℕ) → i < length rules → LedFirst rules i t → LedBy (getD rules i d) t → LedFirst rules (i + 1) t
 led-more rules i d t l below at k r h =

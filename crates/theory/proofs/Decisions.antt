@@ -34,11 +34,7 @@ some P f (x ∷ xs) = pick (f x) (some P f xs)
     pick (no n) (yes t) = yes (t .0, List·Memᴰ·tail (t .1), t .2)
     pick (no n) (no k) = no (λ t. first n k (t .0) (t .1) (t .2))
 
--- a test is decided, and a decision is a test
-pub test : (b : Bool) → Dec (T b)
-test true = yes tt
-test false = no (λ h. h)
-
+-- a decision is a test
 pub truth : {A : Type 0} → Dec A → Bool
 truth (yes a) = true
 truth (no n) = false

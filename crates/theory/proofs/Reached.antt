@@ -179,7 +179,7 @@ start-reach (then s r) = then (by-link s) (start-reach r)
 
 -- exclusion goes down to what reaches
 -- what is one step narrower inherits exclusions
-turned-excluded : {k : Family} {rules : List Rule} (d e : Directed) → Excluded k rules (links d e) → Excluded k rules (links (turn d) (turn e))
+pub turned-excluded : {k : Family} {rules : List Rule} (d e : Directed) → Excluded k rules (links d e) → Excluded k rules (links (turn d) (turn e))
 turned-excluded {k} {rules} d e h = link-turn (subst₂ (λ (x y : Directed). Excluded k rules (links x y)) (sym (turn-turn d)) (sym (turn-turn e)) h)
 
 pub link-narrow-step : {k : Family} {rules : List Rule} {a b c : Directed} → LinkStep rules a b → Excluded k rules (links b c) → Excluded k rules (links a c)
