@@ -1,5 +1,6 @@
 pub mod Codes
 pub mod Effects
+pub mod Equality
 pub mod Families
 pub mod Faults
 pub mod Ranges

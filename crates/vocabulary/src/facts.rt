@@ -2,9 +2,9 @@
 
 ghost use Rattle.std.specs.Prelude.{◌≡◌, Decides};
 ghost use Rattle.vocabulary.specs.Ranges.{FactFits};
-ghost use Rattle.std.specs.Cmp.Rules.{comparing};
-ghost use Rattle.std.proofs.Common.{rules};
 ghost use Rattle.std.specs.Cmp as Keys;
+ghost use Rattle.vocabulary.specs.Equality.{fact_eq};
+ghost use Rattle.vocabulary.specs.Equality.{fact_eq_same};
 
 use crate::numbers::{Class, Link, Name};
 
@@ -29,11 +29,14 @@ impl Fact {
 
 /// Two facts are the same where kind and numbers are.
 impl PartialEq for Fact {
-    ghost equals = { λ x y r. Decides r (x ≡ y) };
+    ghost eq = { fact_eq };
 
-    ghost laws = { Keys.partial_equiv_from_equiv (Prim.search (comparing, rules)) };
+    ghost laws = { Keys.partial_equiv_from_equiv (Keys.decided fact_eq fact_eq_same) };
 
-    fn eq(&self, other: &Fact) -> bool {
+    fn eq(&self, other: &Fact) -> bool
+        ensures value { result ≡ fact_eq self.now other.now }
+        ensures same { Decides result (self.now ≡ other.now) }
+    {
         match (*self, *other) {
             (Fact::InClass(c, a), Fact::InClass(d, b)) => c == d && a == b,
             (Fact::Linked(l, a, b), Fact::Linked(m, x, y)) => l == m && a == x && b == y,

@@ -1,8 +1,9 @@
 //! Terms and atoms of questions, and what makes two terms equal.
 
 ghost use Rattle.std.specs.Prelude.{◌≡◌, Decides};
-ghost use Rattle.std.specs.Cmp.Rules.{comparing};
-ghost use Rattle.std.proofs.Common.{rules};
+ghost use Rattle.std.specs.Cmp as Keys;
+ghost use Rattle.vocabulary.specs.Equality.{term_eq, atom_eq};
+ghost use Rattle.vocabulary.specs.Equality.{term_eq_same, atom_eq_same};
 
 use crate::numbers::{Class, Link, Name};
 
@@ -15,11 +16,14 @@ pub enum Term {
 }
 
 impl PartialEq for Term {
-    ghost equals = { λ t u r. Decides r (t ≡ u) };
+    ghost eq = { term_eq };
 
-    ghost laws = { Prim.search (comparing, rules) };
+    ghost laws = { Keys.partial_equiv_from_equiv (Keys.decided term_eq term_eq_same) };
 
-    fn eq(&self, other: &Term) -> bool {
+    fn eq(&self, other: &Term) -> bool
+        ensures value { result ≡ term_eq self.now other.now }
+        ensures same { Decides result (self.now ≡ other.now) }
+    {
         match (*self, *other) {
             (Term::Variable(m), Term::Variable(n)) => m == n,
             (Term::Constant(a), Term::Constant(b)) => a == b,
@@ -37,11 +41,14 @@ pub enum Atom {
 }
 
 impl PartialEq for Atom {
-    ghost equals = { λ a b r. Decides r (a ≡ b) };
+    ghost eq = { atom_eq };
 
-    ghost laws = { Prim.search (comparing, rules) };
+    ghost laws = { Keys.partial_equiv_from_equiv (Keys.decided atom_eq atom_eq_same) };
 
-    fn eq(&self, other: &Atom) -> bool {
+    fn eq(&self, other: &Atom) -> bool
+        ensures value { result ≡ atom_eq self.now other.now }
+        ensures same { Decides result (self.now ≡ other.now) }
+    {
         match (*self, *other) {
             (Atom::IsIn(c, t), Atom::IsIn(d, u)) => c == d && t == u,
             (Atom::Joins(l, t, u), Atom::Joins(m, v, w)) => l == m && t == v && u == w,

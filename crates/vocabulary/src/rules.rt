@@ -4,8 +4,9 @@ ghost use Rattle.std.specs.Prelude.{◌≡◌, Decides};
 ghost use Rattle.vocabulary.specs.Families.{LinksToo, Takes, family_code};
 ghost use Rattle.vocabulary.specs.Ranges.{RuleFits};
 ghost use Rattle.vocabulary.specs.Refusals.{FamilyOf};
-ghost use Rattle.std.specs.Cmp.Rules.{comparing};
-ghost use Rattle.std.proofs.Common.{rules};
+ghost use Rattle.std.specs.Cmp as Keys;
+ghost use Rattle.vocabulary.specs.Equality.{rule_eq};
+ghost use Rattle.vocabulary.specs.Equality.{rule_eq_same};
 
 use crate::basic::{Basic, Directed};
 use crate::faults::Fault;
@@ -42,11 +43,14 @@ impl Rule {
 
 /// Two rules are the same where form and codes are.
 impl PartialEq for Rule {
-    ghost equals = { λ x y r. Decides r (x ≡ y) };
+    ghost eq = { rule_eq };
 
-    ghost laws = { Prim.search (comparing, rules) };
+    ghost laws = { Keys.partial_equiv_from_equiv (Keys.decided rule_eq rule_eq_same) };
 
-    fn eq(&self, other: &Rule) -> bool {
+    fn eq(&self, other: &Rule) -> bool
+        ensures value { result ≡ rule_eq self.now other.now }
+        ensures same { Decides result (self.now ≡ other.now) }
+    {
         match (*self, *other) {
             (Rule::Within(a, b), Rule::Within(c, d)) => a == c && b == d,
             (Rule::Apart(a, b), Rule::Apart(c, d)) => a == c && b == d,
