@@ -11,7 +11,7 @@ use Rattle.theory.proofs.Numbering.{Thing, name, child, thing}
 use Rattle.theory.proofs.Soundness.{sound}
 use Rattle.theory.proofs.Steps.{turned, Climbs, reaches, link_reaches, has_link, has_at}
 use Rattle.theory.proofs.Things.{Belongs, Alive, Joined, told, down, up}
-use Rattle.theory.specs.Clashes.{linked, Lawful}
+use Rattle.theory.specs.Clashes.{Lawful}
 use Rattle.theory.specs.Lists.{Matched}
 use Rattle.theory.specs.Questions.{Query, Serves, Holds, True, stored}
 use Rattle.theory.specs.Rewritings.{Rewriting}

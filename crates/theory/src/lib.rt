@@ -1,6 +1,8 @@
 //! What rules, facts and questions mean: worlds, the exclusion closure, clashes, what follows, and which rows are true of a question.
 //! The contract of each function is a theorem about the definitions in specs/.
 
+#![tactic(auto)]
+
 ghost use Rattle.theory.specs.Results.{BlameFound, CertainAnswers, ClashesTell, ExclusionsDecided, ExclusionsHold, FamiliesLawful, FollowsTells, NumbersBelow, SafeKept, StepsKeepTruth, TidyingKeepsTruth, TidyingRests};
 
 /// The pairs of the exclusion closure are disjoint in every world that keeps the rules.
