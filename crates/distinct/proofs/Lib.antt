@@ -1,4 +1,5 @@
 pub mod Absences
+pub mod Decided
 pub mod Fronts
 pub mod Members
 pub mod Pushes

@@ -1,5 +1,9 @@
 -- Repeats by an equality E: `E x y r` says that r is what `x == y` may answer.
-use Rattle.std.specs.Prelude.{ℕ, ◌<◌, Bool, true, false, ◌≢◌, List, length, slice_index_or}
+use Rattle.std.specs.Prelude.{◌≡◌, ℕ, ◌<◌, Bool, true, false, ◌≢◌, List, length, slice_index_or}
+
+-- the equality whose answer is the function eq
+abbrev pub Answers : {X : Type 0} → (X → X → Bool) → X → X → Bool → Type 0
+Answers eq x y r = r ≡ eq x y
 
 -- no item equals x
 abbrev pub Absent : {X : Type 0} → (X → X → Bool → Type 0) → List X → X → Type 0

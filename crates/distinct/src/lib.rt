@@ -1,10 +1,12 @@
 //! A list without repeats over places that the caller lends. Its elements may be of any type that has an equality.
 
+#![tactic(auto)]
+
 ghost use Rattle.std.specs.Prelude.{◌≡◌, [], length, MatchBool};
 ghost use Rattle.distinct.specs.Items.{items, spare};
 ghost use Rattle.distinct.specs.Puts.{Outcome};
 ghost use Rattle.distinct.specs.Removals.{FirstPlace, Removal};
-ghost use Rattle.distinct.specs.Repeats.{Absent, NoRepeats, Present};
+ghost use Rattle.distinct.specs.Repeats.{Absent, Answers, NoRepeats, Present};
 
 /// What became of an element that was put into the list.
 #[derive(Clone, Copy, PartialEq, Eq)]
@@ -64,7 +66,7 @@ impl<'a, T> Distinct<'a, T> {
     pub fn has(&self, x: &T) -> bool
     where
         T: PartialEq,
-        ensures { MatchBool result (Present (λ x' y' r'. r' ≡ T.PartialEq.eq x' y') (items self.now) x.now) (Absent (λ x' y' r'. r' ≡ T.PartialEq.eq x' y') (items self.now) x.now) }
+        ensures { MatchBool result (Present (Answers T.PartialEq.eq) (items self.now) x.now) (Absent (Answers T.PartialEq.eq) (items self.now) x.now) }
     {
         self.items().contains(x)
     }
@@ -73,10 +75,10 @@ impl<'a, T> Distinct<'a, T> {
     pub fn put(&mut self, x: T) -> Put
     where
         T: PartialEq + Copy,
-        ensures outcome { Outcome (λ x' y' r'. r' ≡ T.PartialEq.eq x' y') self.old x self.new result }
+        ensures outcome { Outcome (Answers T.PartialEq.eq) self.old x self.new result }
         ensures room { length self.new.places.now ≡ length self.old.places.now }
         ensures lent { self.new.places.ghost_name ≡ self.old.places.ghost_name }
-        ensures distinct { NoRepeats (λ x' y' r'. r' ≡ T.PartialEq.eq x' y') (items self.old) → NoRepeats (λ x' y' r'. r' ≡ T.PartialEq.eq x' y') (items self.new) }
+        ensures distinct { NoRepeats (Answers T.PartialEq.eq) (items self.old) → NoRepeats (Answers T.PartialEq.eq) (items self.new) }
     {
         if self.has(&x) {
             return Put::Stands;
@@ -94,7 +96,7 @@ impl<'a, T> Distinct<'a, T> {
     fn place_of(&self, x: &T) -> Option<usize>
     where
         T: PartialEq,
-        ensures { FirstPlace (λ x' y' r'. r' ≡ T.PartialEq.eq x' y') (items self.now) x.now result }
+        ensures { FirstPlace (Answers T.PartialEq.eq) (items self.now) x.now result }
     {
         let items = self.items();
         for i in 0..items.len() {
@@ -109,10 +111,10 @@ impl<'a, T> Distinct<'a, T> {
     pub fn remove(&mut self, x: &T) -> bool
     where
         T: PartialEq + Copy,
-        ensures removal { Removal (λ x' y' r'. r' ≡ T.PartialEq.eq x' y') self.old x.now self.new result }
+        ensures removal { Removal (Answers T.PartialEq.eq) self.old x.now self.new result }
         ensures room { length self.new.places.now ≡ length self.old.places.now }
         ensures lent { self.new.places.ghost_name ≡ self.old.places.ghost_name }
-        ensures distinct { NoRepeats (λ x' y' r'. r' ≡ T.PartialEq.eq x' y') (items self.old) → NoRepeats (λ x' y' r'. r' ≡ T.PartialEq.eq x' y') (items self.new) }
+        ensures distinct { NoRepeats (Answers T.PartialEq.eq) (items self.old) → NoRepeats (Answers T.PartialEq.eq) (items self.new) }
     {
         let Some(i) = self.place_of(x) else {
             return false;

@@ -2,7 +2,7 @@ use Rattle.std.proofs.Common.{ℕ, ◌+◌, ◌<◌, length, take, sym, refl, �
 use Rattle.distinct.proofs.Distinct.put.Goals as goal
 use Rattle.distinct.proofs.Fronts.{rest_some}
 use Rattle.distinct.proofs.Pushes.{no_repeats_push}
-use Rattle.distinct.specs.Repeats.{Absent, NoRepeats}
+use Rattle.distinct.specs.Repeats.{Absent, Answers, NoRepeats}
 use Rattle.std.proofs.lemmas.List.{take_more_set, drop-set-lt, drop-drop, drop_all}
 
 pub returns-then-n-self : goal.returns-then-n-self
@@ -22,7 +22,7 @@ returns g c =
     let n : ℕ = s.len in
     let x = c.args.x in
     let l : n < length xs = c.if-n-self.false in
-    let E = g.T.PartialEq.equals in
+    let E = Answers g.T.PartialEq.eq in
     let new : Absent E (take n xs) x = c.if-has.ensures in
     let more = take_more_set xs n x l in
     record {

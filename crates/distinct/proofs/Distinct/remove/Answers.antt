@@ -3,19 +3,18 @@ use Rattle.distinct.proofs.Distinct.remove.Goals as goal
 use Rattle.distinct.proofs.Fronts.{count_within, drop_front, take_front}
 use Rattle.distinct.proofs.Shifts.{shift_length, shift_rest, shift_without, without_repeats}
 use Rattle.distinct.specs.Removals.{FirstPlace, Without}
-use Rattle.distinct.specs.Repeats.{NoRepeats}
+use Rattle.distinct.specs.Repeats.{Answers, NoRepeats}
 use borrow.Rule.Slice.PartMut.{put_mid}
-use borrow.Author.Rules.{scaled_fits≤}
 
-pub offset-bounds-self-i : goal.offset-bounds-self-i
-offset-bounds-self-i g c =
+pub offset_bounds-self-i : goal.offset_bounds-self-i
+offset_bounds-self-i g c =
     let s = c.args.self.now in
     let n = count_within s.len s.places.now c.len-count.ensures in
     let l : c.in-Some.i < length s.places.now = omega (arith, c.in-Some.ensures.0) in
     search rules
 
-pub slice-bounds-rotate-left-end : goal.slice-bounds-rotate-left-end
-slice-bounds-rotate-left-end g c =
+pub slice_bounds-rotate_left-end : goal.slice_bounds-rotate_left-end
+slice_bounds-rotate_left-end g c =
     let s = c.args.self.now in
     let n : c.len-count.result ≤ length s.places.now = count_within s.len s.places.now c.len-count.ensures in
     let l : c.in-Some.i < c.len-count.result = omega (arith, c.in-Some.ensures.0) in
@@ -23,18 +22,18 @@ slice-bounds-rotate-left-end g c =
 
 pub returns : goal.returns
 returns g c =
-    let E = g.T.PartialEq.eq in
+    let E = Answers g.T.PartialEq.eq in
     let s = c.args.self.now in
     let t = s.places.now in
     let x = c.args.x.now in
     let i = c.in-Some.i in
     let n = c.len-count.result in
-    let r = c.rotate-left.new.self in
+    let r = c.rotate_left.new.self in
     let own : take s.len t ≡ take n t = take_front s.len t c.len-count.ensures in
     let place : FirstPlace E (take n t) x (Some i) = subst (λ (ys : List g.row.T.Denot). FirstPlace E ys x (Some i)) own c.in-Some.ensures in
     let long : n ≤ length t = count_within s.len t c.len-count.ensures in
     let low : i < n = omega (arith, place.0, length-take n t) in
-    let turned = c.rotate-left.ensures.after in
+    let turned = c.rotate_left.ensures.after in
     let w : Without E x (take n t) (take (n - 1) (put_mid i (n - i) t r)) = shift_without t i n r low long turned E x x place in
     let gone : Without E x (take s.len t) (take (n - 1) (put_mid i (n - i) t r)) = subst (λ (ys : List g.row.T.Denot). Without E x ys (take (n - 1) (put_mid i (n - i) t r))) (sym own) w in
     record {
