@@ -1,10 +1,9 @@
 -- A bit of a table of bytes, and the table after one bit is turned over.
-use Rattle.std.proofs.Common.{◌≡◌, ℕ, zero, suc, ◌-◌, ◌*◌, ◌/◌, ◌%◌, ◌^◌, ◌<◌, Bool, true, false, cond, not, eqb, ◌≢◌, List, length, get_or, set, replicate, sym, refl, ap, ◌∙◌, inl, inr, arith}
+use Rattle.std.proofs.Common.{◌≡◌, ℕ, zero, suc, ◌*◌, ◌/◌, ◌%◌, ◌^◌, ◌<◌, Bool, true, false, cond, not, eqb, ◌≢◌, List, length, get_or, set, replicate, sym, refl, ap, ◌∙◌, inl, inr, arith}
 use Rattle.std.proofs.lemmas.Nat.{one_shl, xor_shr, xor_mod}
-use Rattle.std.proofs.lemmas.List.{get_or-set_same, get_or-set_other, get_or_past, get_or-replicate}
+use Rattle.std.proofs.lemmas.List.{get_or-set_same, get_or-set_other, get_or_past, get_or-replicate, length-replicate}
 use Rattle.std.proofs.lemmas.Bool.{cases_eq, cases_lt}
-use lib.Bits.{bit_xor}
-use lib.ListN.{length-replicate}
+use Rattle.std.specs.Int.Bits.{bit_xor}
 use Rattle.bits.proofs.Words.{bit_one_other, bit_one_same, bit_zero}
 use Rattle.bits.specs.Words.{bit_of}
 use Rattle.bitstore.specs.Marks.{bit_at, OneMore}
@@ -18,9 +17,9 @@ xor_digit (suc (suc x)) y h k = absurd (omega arith)
 xor_digit zero (suc (suc y)) h k = absurd (omega arith)
 xor_digit (suc zero) (suc (suc y)) h k = absurd (omega arith)
 
-bit_xor : (x y j : ℕ) → bit_of (bit_xor x y) j ≡ cond (bit_of y j) (not (bit_of x j)) (bit_of x j)
+xor_bit : (x y j : ℕ) → bit_of (bit_xor x y) j ≡ cond (bit_of y j) (not (bit_of x j)) (bit_of x j)
 unfolding bit_of
-bit_xor x y j =
+xor_bit x y j =
     ap (λ (n : ℕ). eqb (n % 2) 1) (xor_shr x y j)
     ∙ ap (λ (n : ℕ). eqb n 1) (xor_mod (x / 2 ^ j) (y / 2 ^ j) 1)
     ∙ xor_digit (x / 2 ^ j % 2) (y / 2 ^ j % 2) (omega arith) (omega arith)
@@ -30,7 +29,7 @@ abbrev pub turned : ℕ → ℕ → ℕ
 turned w j = bit_xor w ((1 * 2 ^ j) % 2 ^ 8)
 
 bit_turned : (w j m : ℕ) → j < 8 → bit_of (turned w j) m ≡ cond (bit_of (2 ^ j) m) (not (bit_of w m)) (bit_of w m)
-bit_turned w j m h = bit_xor w ((1 * 2 ^ j) % 2 ^ 8) m ∙ ap (λ (n : ℕ). cond (bit_of n m) (not (bit_of w m)) (bit_of w m)) (one_shl j 8 h)
+bit_turned w j m h = xor_bit w ((1 * 2 ^ j) % 2 ^ 8) m ∙ ap (λ (n : ℕ). cond (bit_of n m) (not (bit_of w m)) (bit_of w m)) (one_shl j 8 h)
 
 module _ (t : List ℕ) (k : ℕ) where
   abbrev pub flipped : List ℕ

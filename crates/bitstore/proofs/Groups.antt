@@ -1,6 +1,6 @@
 -- Counts of groups of bits: kept as a bit is turned over, and used to find the set bit of a place.
 use Rattle.std.proofs.Common.{◌≡◌, ℕ, zero, suc, ◌+◌, ◌-◌, ◌*◌, ◌/◌, ◌%◌, ◌^◌, ◌<◌, ◌≤◌, Bool, true, false, cond, eqb, List, length, get_or, set, replicate, sym, refl, ap, ◌∙◌, subst, ap₂, inl, inr, add-zero, add_assoc, mul-le-mul_right, suc-mul, div-one, add-one, arith}
-use lib.Count.{ones, ones_in, ones_step}
+use Rattle.std.specs.Int.Count.{ones, ones_in, ones_step}
 use Rattle.std.proofs.lemmas.Nat.{mul-le, shr-shr, shr_below}
 use Rattle.std.proofs.lemmas.List.{get_or-set_same, get_or-set_other}
 use Rattle.std.proofs.lemmas.Bool.{cases_eq, cases_lt}

@@ -1,5 +1,5 @@
 -- What turning over the bit of a fact does to the facts and their count.
-use Rattle.std.proofs.Common.{◌≡◌, ℕ, ◌+◌, ◌-◌, ◌<◌, List, ◌∷◌, ◌++◌, map, ap, ◌∙◌}
+use Rattle.std.proofs.Common.{◌≡◌, ℕ, ◌+◌, ◌<◌, List, ◌∷◌, ◌++◌, map, ap, ◌∙◌}
 use Rattle.distinct.proofs.Sameness.{Parted}
 use Rattle.facts.specs.Changes.{NamesBelow}
 use Rattle.vocabulary.specs.declared.facts.Fact.{Fact}

@@ -3,4 +3,4 @@ use Rattle.bitstore.specs.Marks.{bit_at}
 
 pub returns : goal.returns
 unfolding bit_at
-returns c = c.bit-in.ensures
+returns c = c.bit_in.ensures

@@ -8,8 +8,8 @@ use Rattle.bitstore.proofs.scan.bit_of.Goals as goal
 pub loop-j-init : goal.loop-j-init
 loop-j-init c = omega (arith, tally_zero (bit_of c.args.byte))
 
-pub loop-j-preserved-then-not-bit-in : goal.loop-j-preserved-then-not-bit-in
-loop-j-preserved-then-not-bit-in c =
+pub loop-j-preserved-then-not-bit_in : goal.loop-j-preserved-then-not-bit_in
+loop-j-preserved-then-not-bit_in c =
     let off : bit_of c.args.byte c.loop-j.j ≡ false = cc in
     omega (arith, tally_kept (bit_of c.args.byte) c.loop-j.j off)
 

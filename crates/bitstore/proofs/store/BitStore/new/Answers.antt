@@ -6,18 +6,26 @@ use Rattle.bitstore.specs.Held.{no_facts}
 use Rattle.bitstore.specs.Layout.{bits, bytes}
 use Rattle.bitstore.specs.Marks.{bit_at}
 use Rattle.bitstore.specs.Ranks.{tally_none}
-use lib.ListN.{length-replicate}
+use Rattle.std.proofs.lemmas.List.{length-replicate}
 
 -- a table that was filled with zeros has no bit set
 none_set : (t : List ℕ) (n : ℕ) → t ≡ replicate n 0 → (k : ℕ) → bit_at t k ≡ false
 none_set t n e k = ap (λ (ys : List ℕ). bit_at ys k) e ∙ bit_zeros n k
 
-pub invariant-of-result : goal.invariant-of-result
-invariant-of-result c =
+pub invariant_of-result : goal.invariant_of-result
+invariant_of-result c =
     let t = c.fill.new.self in
     let none = none_set t _ (c.fill.ensures.after (λ y e. e)) in
     let size : length t ≡ bytes c.args.pass.names = ap length (c.fill.ensures.after (λ y e. e)) ∙ length-replicate _ 0 ∙ c.requires.sized in
-    (c.requires.least, (c.requires.most, (size, (sym (tally_none (bit_at t) (bits c.args.pass.names) none), (omega arith, (counts_none (bit_at t) 16384 32 32 none, (counts_none (bit_at t) 512 1024 1024 none, tt)))))))
+    record {
+      some = c.requires.least;
+      most = c.requires.most;
+      size = size;
+      held = sym (tally_none (bit_at t) (bits c.args.pass.names) none);
+      small = omega arith;
+      far = counts_none (bit_at t) 16384 32 32 none;
+      near = counts_none (bit_at t) 512 1024 1024 none;
+    }
 
 pub returns : goal.returns
 returns c = (refl, no_facts c.args.pass.names c.fill.new.self (none_set c.fill.new.self _ (c.fill.ensures.after (λ y e. e))))

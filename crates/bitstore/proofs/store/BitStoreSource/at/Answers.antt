@@ -11,22 +11,22 @@ returns-then-place-self c =
     let t = s.table.now in
     sym (slice_get_past (listing s.names t) c.args.place (omega (arith, count_facts s.names t)))
 
-pub group-of-wide-requires : goal.group-of-wide-requires
-group-of-wide-requires c =
+pub group_of-wide-requires : goal.group_of-wide-requires
+group_of-wide-requires c =
     let s = c.args.self.now in
     first s.table.now s.wide s.close s.names c.args.place s.far s.near (omega arith) s.most s.size (omega arith)
 
-pub group-of-close-requires : goal.group-of-close-requires
-group-of-close-requires c =
+pub group_of-close-requires : goal.group_of-close-requires
+group_of-close-requires c =
     let s = c.args.self.now in
     second s.table.now s.wide s.close s.names c.args.place s.far s.near (omega arith) s.most s.size (omega arith) (omega arith)
-    _ _ c.group-of-wide.ensures
+    _ _ c.group_of-wide.ensures
 
-pub byte-of-at-requires : goal.byte-of-at-requires
-byte-of-at-requires c =
+pub byte_of-at-requires : goal.byte_of-at-requires
+byte_of-at-requires c =
     let s = c.args.self.now in
     third s.table.now s.wide s.close s.names c.args.place s.far s.near (omega arith) s.most s.size (omega arith) (omega arith)
-    _ _ _ _ c.group-of-wide.ensures c.group-of-close.ensures
+    _ _ _ _ c.group_of-wide.ensures c.group_of-close.ensures
 
 pub returns : goal.returns
 returns c =
@@ -34,5 +34,5 @@ returns c =
     let t = s.table.now in
     let x =
     fourth t s.wide s.close s.names c.args.place s.far s.near (omega arith) s.most s.size (omega arith) (omega arith) _ _ _ _ _ _
-    c.bit_of.result c.group-of-wide.ensures c.group-of-close.ensures c.byte-of-at.ensures c.bit_of.ensures.0 c.bit_of.ensures.1 in
-    ap Some c.fact-at.ensures ∙ sym (ranked_at s.names t (omega arith) c.args.place _ x.0 x.1)
+    c.bit_of.result c.group_of-wide.ensures c.group_of-close.ensures c.byte_of-at.ensures c.bit_of.ensures.0 c.bit_of.ensures.1 in
+    ap Some c.fact_at.ensures ∙ sym (ranked_at s.names t (omega arith) c.args.place _ x.0 x.1)

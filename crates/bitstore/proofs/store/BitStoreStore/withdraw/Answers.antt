@@ -13,35 +13,43 @@ position-k-requires c =
     let has : Memᴰ f (facts s f) = c.stands.ensures.0 c.if-not-stands.false in
     (has_below s f has, omega arith)
 
-pub overflow-sub-self : goal.overflow-sub-self
-overflow-sub-self c =
+pub overflow_sub-self : goal.overflow_sub-self
+overflow_sub-self c =
     let s = c.args.self.now in
     let f = c.args.fact in
     let has : Memᴰ f (facts s f) = c.stands.ensures.0 c.if-not-stands.false in
     some s f c.position-k.result c.position-k.ensures has
 
-pub overflow-sub-self-2 : goal.overflow-sub-self-2
-overflow-sub-self-2 c =
+pub overflow_sub-self-2 : goal.overflow_sub-self-2
+overflow_sub-self-2 c =
     let s = c.args.self.now in
     let f = c.args.fact in
     let has : Memᴰ f (facts s f) = c.stands.ensures.0 c.if-not-stands.false in
     some_far s f c.position-k.result c.position-k.ensures has
 
-pub overflow-sub-self-3 : goal.overflow-sub-self-3
-overflow-sub-self-3 c =
+pub overflow_sub-self-3 : goal.overflow_sub-self-3
+overflow_sub-self-3 c =
     let s = c.args.self.now in
     let f = c.args.fact in
     let has : Memᴰ f (facts s f) = c.stands.ensures.0 c.if-not-stands.false in
     some_near s f c.position-k.result c.position-k.ensures has
 
-pub invariant-of-self : goal.invariant-of-self
-invariant-of-self c =
+pub invariant_of-self : goal.invariant_of-self
+invariant_of-self c =
     let s = c.args.self.now in
     let f = c.args.fact in
     let has : Memᴰ f (facts s f) = c.stands.ensures.0 c.if-not-stands.false in
     let k = c.position-k.result in
     let at = c.position-k.ensures in
-    (s.some, (s.most, (simp length-set s.size, (down_held s f k at has, (omega arith, (down_far s f k at has (omega arith), (down_near s f k at has (omega arith), tt)))))))
+    record {
+      some = s.some;
+      most = s.most;
+      size = simp length-set s.size;
+      held = down_held s f k at has;
+      small = omega arith;
+      far = down_far s f k at has (omega arith);
+      near = down_near s f k at has (omega arith);
+    }
 
 pub returns-then-not-stands : goal.returns-then-not-stands
 returns-then-not-stands c = record {
