@@ -7,7 +7,7 @@ use Rattle.std.proofs.lemmas.Bool.{cases_eq, cases_lt}
 use Rattle.bitstore.specs.Marks.{bit_at, tally, sums, Counts, Within, InByte, OneMore, Ranked}
 use Rattle.bits.specs.Words.{bit_of}
 use Rattle.bitstore.specs.Layout.{bits}
-use Rattle.bitstore.specs.Ranks.{tally_same, tally_before, tally_after, tally_le, tally_zero, tally_none, fewer}
+use Rattle.bitstore.proofs.Ranks.{tally_same, tally_before, tally_after, tally_le, tally_zero, tally_none, fewer}
 
 -- ---- sums
 

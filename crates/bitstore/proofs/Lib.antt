@@ -1,5 +1,8 @@
 pub mod Bytes
 pub mod Groups
+pub mod Held
 pub mod Order
+pub mod Places
+pub mod Ranks
 mod Stored
 pub mod Turns

@@ -7,7 +7,7 @@ use Rattle.distinct.proofs.Sameness.{Parted}
 use Rattle.bitstore.specs.declared.store.BitStore.{BitStore}
 use Rattle.bitstore.specs.Layout.{Placed, bits, listing, position_of}
 use Rattle.bitstore.specs.Marks.{bit_at, Counts, OneMore, tally}
-use Rattle.bitstore.specs.Held.{bit_stands, stands_bit}
+use Rattle.bitstore.proofs.Held.{bit_stands, stands_bit}
 use Rattle.bitstore.proofs.Bytes.{flipped, flip_clears, flip_sets}
 use Rattle.bitstore.proofs.Groups.{counts_down, counts_some, counts_up}
 use Rattle.bitstore.proofs.Turns.{bit_parted, more_bits}

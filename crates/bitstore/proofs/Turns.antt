@@ -5,8 +5,8 @@ use Rattle.facts.specs.Changes.{NamesBelow}
 use Rattle.vocabulary.specs.declared.facts.Fact.{Fact}
 use Rattle.bitstore.specs.Marks.{bit_at, tally, OneMore}
 use Rattle.bitstore.specs.Layout.{position_of, bits, fact_of, listing}
-use Rattle.bitstore.specs.Places.{pos_below, fact_pos}
-use Rattle.bitstore.specs.Ranks.{tally_after, listed_put}
+use Rattle.bitstore.proofs.Places.{pos_below, fact_pos}
+use Rattle.bitstore.proofs.Ranks.{tally_after, listed_put}
 use Rattle.std.proofs.lemmas.List.{map-append}
 
 -- t has the bit of f, and is else as s

@@ -1,6 +1,4 @@
-pub mod Held
 pub mod Layout
 pub mod Marks
 pub mod Passes
-pub mod Places
-pub mod Ranks
+pub mod Rooms

@@ -1,12 +1,17 @@
 //! The bit store: its facts are those whose bits are set, in the order of their bits.
 
 ghost use Rattle.std.specs.Prelude.{◌≡◌, ◌*◌, ◌<◌, ◌≤◌, [], length};
-ghost use Rattle.bitstore.specs.Held.{facts_different, facts_fit, facts_short, high, low, room};
 ghost use Rattle.bitstore.specs.Layout.{bits, bytes, listing};
 ghost use Rattle.bitstore.specs.Marks.{Counts, bit_at, tally};
 ghost use Rattle.bitstore.specs.Passes.{BitSuits};
+ghost use Rattle.bitstore.specs.Rooms.{room};
+ghost use Rattle.distinct.proofs.Sameness.{different_had};
+ghost use Rattle.distinct.specs.Repeats.{Different};
 ghost use Rattle.facts.specs.Changes.{Entered, NamesBelow, Withdrawn};
 ghost use Rattle.facts.specs.Listings.{Untouched, changed, inserted, without};
+ghost use Rattle.std.specs.List.{AllByRecursion};
+ghost use Rattle.vocabulary.proofs.Ranges.{facts_had};
+ghost use Rattle.vocabulary.specs.Ranges.{FactFits};
 
 use crate::layout::{fact_at, has_bit, position};
 use crate::pass::BitPass;
@@ -36,6 +41,9 @@ pub struct BitStore<'a> {
     ghost small: { count ≤ 4096 },
     ghost far: { Counts (bit_at table.now) 16384 32 wide },
     ghost near: { Counts (bit_at table.now) 512 1024 close },
+    ghost few: { length (listing names table.now) ≤ 4096 },
+    ghost different: { ∥ Different (listing names table.now) ∥₁ },
+    ghost fitting: { ∥ AllByRecursion FactFits (listing names table.now) ∥₁ },
 }
 
 impl<'a> BitStore<'a> {
@@ -59,11 +67,11 @@ impl<'a> BitStore<'a> {
 impl Source for BitStore<'_> {
     ghost facts = { λ s. listing s.names s.table.now };
 
-    ghost few = { λ s. facts_short s.names s.table.now s.count s.held s.small };
+    ghost few = { λ s. s.few };
 
-    ghost different = { λ s. facts_different s.names s.table.now (low s.names s.some) };
+    ghost different = { λ s. different_had (listing s.names s.table.now) s.different };
 
-    ghost fitting = { λ s. facts_fit s.names s.table.now (low s.names s.some) (high s.names s.most) };
+    ghost fitting = { λ s. facts_had (listing s.names s.table.now) s.fitting };
 
     fn count(&self) -> usize {
         self.count

@@ -1,6 +1,6 @@
 use Rattle.std.proofs.Common.{◌≡◌, ℕ, ◌-◌, ◌*◌, ◌/◌, ◌<◌, sym, mul_assoc, arith}
 use Rattle.std.proofs.lemmas.Nat.{div_below}
-use Rattle.bitstore.specs.Places.{class_at, link_at}
+use Rattle.bitstore.proofs.Places.{class_at, link_at}
 use Rattle.bitstore.proofs.layout.fact_at.Goals as goal
 
 pub overflow_cast-result : goal.overflow_cast-result

@@ -1,7 +1,7 @@
 use Rattle.std.proofs.Common.{ℕ, ◌<◌, sym, ap, subst, arith}
 use Rattle.std.proofs.lemmas.Nat.{mul-le}
 use Rattle.bitstore.specs.Layout.{bits, position_of}
-use Rattle.bitstore.specs.Places.{pos_below}
+use Rattle.bitstore.proofs.Places.{pos_below}
 use Rattle.bitstore.proofs.layout.position.Goals as goal
 
 pub returns-in-InClass : goal.returns-in-InClass

@@ -1,7 +1,7 @@
 use Rattle.std.proofs.Common.{◌≡◌, ◌<◌, true, false, ap, arith}
 use Rattle.bitstore.specs.Marks.{tally}
 use Rattle.bits.specs.Words.{bit_of}
-use Rattle.bitstore.specs.Ranks.{tally_zero, tally_more, tally_kept}
+use Rattle.bitstore.proofs.Ranks.{tally_zero, tally_more, tally_kept}
 use Rattle.bitstore.proofs.Groups.{ones_tally}
 use Rattle.bitstore.proofs.scan.bit_of.Goals as goal
 

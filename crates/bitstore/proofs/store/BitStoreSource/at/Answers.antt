@@ -1,7 +1,7 @@
 use Rattle.std.proofs.Common.{Some, sym, ap, ◌∙◌, arith}
 use Rattle.std.proofs.lemmas.Option.{slice_get_past}
 use Rattle.bitstore.specs.Layout.{listing}
-use Rattle.bitstore.specs.Held.{count_facts, ranked_at}
+use Rattle.bitstore.proofs.Held.{count_facts, ranked_at}
 use Rattle.bitstore.proofs.Groups.{first, second, third, fourth}
 use Rattle.bitstore.proofs.store.BitStoreSource.at.Goals as goal
 

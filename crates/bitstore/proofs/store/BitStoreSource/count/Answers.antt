@@ -1,5 +1,5 @@
 use Rattle.std.proofs.Common.{sym, ◌∙◌}
-use Rattle.bitstore.specs.Held.{count_facts}
+use Rattle.bitstore.proofs.Held.{count_facts}
 use Rattle.bitstore.proofs.store.BitStoreSource.count.Goals as goal
 
 pub returns : goal.returns

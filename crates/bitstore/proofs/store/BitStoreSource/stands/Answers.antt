@@ -4,7 +4,7 @@ use Rattle.std.proofs.lemmas.Bool.Decides.{not_from_Decides}
 use Rattle.bitstore.specs.Layout.{position_of}
 use Rattle.facts.specs.Changes.{NamesBelow}
 use Rattle.bitstore.specs.Marks.{bit_at}
-use Rattle.bitstore.specs.Held.{bit_stands, stands_bit}
+use Rattle.bitstore.proofs.Held.{bit_stands, stands_bit}
 use Rattle.bitstore.proofs.store.BitStoreSource.stands.Goals as goal
 
 pub returns-then-not-has_bit : goal.returns-then-not-has_bit

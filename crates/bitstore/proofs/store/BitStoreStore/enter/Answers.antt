@@ -1,4 +1,4 @@
-use Rattle.std.proofs.Common.{◌/◌, refl, inl, inr, arith, length-set}
+use Rattle.std.proofs.Common.{◌+◌, ◌/◌, refl, inl, inr, arith, length-set}
 use Rattle.std.proofs.lemmas.Bool.Decides.{not_from_Decides}
 use Rattle.facts.specs.Changes.{NamesBelow, not_taken, out_of_range}
 use Rattle.vocabulary.specs.Ranges.{FactFits}
@@ -6,7 +6,7 @@ use Rattle.bitstore.specs.Marks.{bit_at}
 use Rattle.bitstore.proofs.Groups.{counts_le}
 use Rattle.bitstore.proofs.Order.{inserted_is}
 use Rattle.bitstore.proofs.Stored.{up_far, up_held, up_near, up_parted}
-use Rattle.bitstore.specs.Held.{count_facts, facts_different, facts_order}
+use Rattle.bitstore.proofs.Held.{count_facts, facts_different, facts_fit, facts_order, facts_short}
 use Rattle.facts.proofs.Listing.{parted_added}
 use Rattle.std.proofs.lemmas.Bool.{false≢true}
 use Rattle.bitstore.proofs.store.BitStoreStore.enter.Goals as goal
@@ -37,6 +37,9 @@ invariant_of-self c =
       small = omega arith;
       far = up_far s f k at out low (omega arith);
       near = up_near s f k at out low (omega arith);
+      few = facts_short s.names _ (s.count + 1) (up_held s f k at out low) (omega arith);
+      different = ∣ facts_different s.names _ (omega arith) ∣₁;
+      fitting = ∣ facts_fit s.names _ (omega arith) (omega arith) ∣₁;
     }
 
 pub returns-then-not-fits : goal.returns-then-not-fits

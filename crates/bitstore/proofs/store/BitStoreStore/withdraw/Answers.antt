@@ -1,5 +1,5 @@
-use Rattle.std.proofs.Common.{sym, refl, arith, length-set}
-use Rattle.bitstore.specs.Held.{count_facts, facts_different}
+use Rattle.std.proofs.Common.{◌-◌, sym, refl, arith, length-set}
+use Rattle.bitstore.proofs.Held.{count_facts, facts_different, facts_fit, facts_short}
 use Rattle.facts.proofs.Listing.{parted_added, parted_without}
 use Rattle.std.proofs.lemmas.Bool.{false≢true}
 use mathlib.Core.List.{Memᴰ}
@@ -49,6 +49,9 @@ invariant_of-self c =
       small = omega arith;
       far = down_far s f k at has (omega arith);
       near = down_near s f k at has (omega arith);
+      few = facts_short s.names _ (s.count - 1) (down_held s f k at has) (omega arith);
+      different = ∣ facts_different s.names _ (omega arith) ∣₁;
+      fitting = ∣ facts_fit s.names _ (omega arith) (omega arith) ∣₁;
     }
 
 pub returns-then-not-stands : goal.returns-then-not-stands

@@ -1,4 +1,4 @@
--- The numbers below m that pass a test: how many there are, and which stands at a place. Ghost members cite these.
+-- The numbers below m that pass a test: how many there are, and which stands at a place.
 use Rattle.std.specs.Prelude.{◌≡◌, ℕ, zero, suc, ◌+◌, ◌-◌, ◌<◌, ◌≤◌, Bool, true, false, cond, List, [], ◌∷◌, ◌++◌, length, Some}
 use Rattle.std.proofs.Math.ListN.{length-append}
 use mathlib.Core.List.{append-nil, append_assoc}

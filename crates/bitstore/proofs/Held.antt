@@ -1,4 +1,4 @@
--- The facts whose bits are set: how many, which, and in what order. Ghost members cite these.
+-- The facts whose bits are set: how many, which, and in what order.
 use Rattle.std.specs.Prelude.{◌≡◌, ℕ, zero, suc, ◌<◌, ◌≤◌, true, false, List, [], ◌∷◌, map, length, Some, refl}
 use mathlib.Core.List.{Memᴰ}
 use Rattle.std.proofs.Common.{sym, ◌∙◌, arith}
@@ -13,8 +13,8 @@ use Rattle.vocabulary.specs.declared.facts.Fact.TheVariants.{InClass, Linked}
 use Rattle.facts.proofs.Nth.{all_from_nth, different_from_nth, member_nth, none_some, nth_member, some_inj}
 use Rattle.bitstore.specs.Marks.{bit_at, tally, listed, Ranked}
 use Rattle.bitstore.specs.Layout.{Ascending, bits, fact_of, listing, position_of}
-use Rattle.bitstore.specs.Ranks.{length_listed, listed_ranked, ranked_listed, tally_none, fewer}
-use Rattle.bitstore.specs.Places.{pos_below, fact_pos, pos_fact, pos_order}
+use Rattle.bitstore.proofs.Ranks.{length_listed, listed_ranked, ranked_listed, tally_none, fewer}
+use Rattle.bitstore.proofs.Places.{pos_below, fact_pos, pos_fact, pos_order}
 
 nth_map : {X Y : Type 0} (f : X → Y) (xs : List X) (k : ℕ) (x : X) → slice_get xs k ≡ Some x → slice_get (map f xs) k ≡ Some (f x)
 nth_map f [] k x p = absurd (none_some p)
@@ -82,15 +82,3 @@ facts_order n t some i j f g lt p q =
     let a = at_bit n t some i f p in
     let b = at_bit n t some j g q in
     pos_order n f g a.0 b.0 (fewer (bit_at t) (position_of n f) (position_of n g) (omega (arith, a.1.rank, b.1.rank)))
-
--- the range of the names, as the lemmas above want it
-pub low : (n : ℕ) → 64 ≤ n → 0 < n
-low n h = omega arith
-
-pub high : (n : ℕ) → n ≤ 120 → n ≤ 1024
-high n h = omega arith
-
--- names below 64 are below n, and fewer than 128 are fewer than 4,096
-pub room : (n count : ℕ) (f : Fact) → 64 ≤ n → count < 128 → NamesBelow 64 f → NamesBelow n f × (count < 4096)
-room n count (InClass c a) h few b = ((b.0, omega (arith, b.1)), omega arith)
-room n count (Linked l a b) h few g = ((g.0, omega (arith, g.1), omega (arith, g.2)), omega arith)

@@ -1,4 +1,4 @@
--- A fact and its bit: each is got back from the other, and bits ascend as the listing does. Ghost members cite these.
+-- A fact and its bit: each is got back from the other, and bits ascend as the listing does.
 use Rattle.std.specs.Prelude.{◌≡◌, ℕ, ◌+◌, ◌-◌, ◌*◌, ◌/◌, ◌%◌, ◌<◌, ◌≤◌, Bool, true, cond, ◌&&◌, ◌||◌, ◌⊎◌, ◌==◌, nat_lt, refl}
 use Rattle.std.proofs.lemmas.Nat.{div-add-mod', mul-add-lt, div-mul-add, mod-mul-add, div_below, mod_below}
 use Rattle.std.proofs.lemmas.Bool.{and_from, cases_lt, cases_order, eq-eqb, le-ltb, lt-ltb, or_left, or_right}
