@@ -1,12 +1,12 @@
 -- What setting bits does to a table as a relation.
-use Rattle.std.proofs.Common.{◌≡◌, ℕ, ◌+◌, ◌*◌, ◌/◌, ◌%◌, ◌<◌, Bool, true, false, ◌||◌, ◌≢◌, ◌⊎◌, List, length, replicate, sym, refl, ap, ◌∙◌, subst, inl, inr, arith}
+use Rattle.std.proofs.Common.{◌≡◌, ℕ, ◌+◌, ◌*◌, ◌/◌, ◌%◌, ◌<◌, Bool, true, false, ◌||◌, ◌⊎◌, List, length, replicate, sym, refl, ap, ◌∙◌, subst, inl, inr, arith}
 use Rattle.bits.proofs.Counting.{marked_le, marked_lt}
 use Rattle.bits.proofs.Places.{pair_bit, place_same, place_inside}
-use Rattle.bits.proofs.Words.{bit_or, bit_zeros}
+use Rattle.bits.proofs.Words.{bit_of_or, bit_zeros}
 use Rattle.bits.specs.Relations.{pair, On, Symmetric, Joined, Inherited, base, flip, pass, Grows, Covers}
-use Rattle.bits.specs.Words.{Marked, bit, bit_of, word}
+use Rattle.bits.specs.Words.{Marked, bit_of, word}
 use Rattle.std.proofs.lemmas.Bool.{cases_eq, cases_Bool, false≢true, true≢false, or_cases, or_left, or_parts}
-use lib.Bits.{bit_or}
+use Rattle.std.specs.Int.Bits.{bit_or}
 
 -- a table of zeros relates nothing
 pub pair_zeros : (stride n a b : ℕ) → pair stride (replicate n 0) a b ≡ false
@@ -176,5 +176,5 @@ row_covers stride t from to same h k l o =
     record {
       row = h;
       column = l;
-      set = ap (λ (w : ℕ). bit_of w (k % 64)) (sym (same (k / 64) j)) ∙ bit_or x y (k % 64) ∙ or_left (bit_of x (k % 64)) (bit_of y (k % 64)) o.set;
+      set = ap (λ (w : ℕ). bit_of w (k % 64)) (sym (same (k / 64) j)) ∙ bit_of_or x y (k % 64) ∙ or_left (bit_of x (k % 64)) (bit_of y (k % 64)) o.set;
     }

@@ -4,18 +4,19 @@ use Rattle.bits.proofs.relation.Relation.add.Goals as goal
 use Rattle.bits.specs.Words.{Marked}
 use Rattle.std.proofs.lemmas.Bool.{false≢true}
 
-pub invariant-of-self : goal.invariant-of-self
-invariant-of-self c =
+pub invariant_of-self : goal.invariant_of-self
+invariant_of-self c =
     let r = c.args.self.now in
     let s = r.bits.words.now in
     let t = c.set.new.self.words.now in
     let u = c.set-2.new.self.words.now in
     let (ha, hb, e) = c.in-Some.ensures in
     let m = subst (λ (i : ℕ). Marked i s t) e c.set.ensures in
-    let n = subst (λ (i : ℕ). Marked i t u) c.in-Some-place.ensures.2 c.set-2.ensures in (
-      both_sized r.stride c.args.a c.args.b s t u ha hb r.sized m n,
-      (both_symmetric r.stride c.args.a c.args.b s t u ha hb r.sized m n r.symmetric, tt),
-    )
+    let n = subst (λ (i : ℕ). Marked i t u) c.in-Some-place.ensures.2 c.set-2.ensures in
+    record {
+      sized = both_sized r.stride c.args.a c.args.b s t u ha hb r.sized m n;
+      symmetric = both_symmetric r.stride c.args.a c.args.b s t u ha hb r.sized m n r.symmetric;
+    }
 
 pub returns : goal.returns
 returns c =

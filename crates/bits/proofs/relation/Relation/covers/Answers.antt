@@ -3,7 +3,7 @@ use Rattle.bits.proofs.Inheriting.{row_covers}
 use Rattle.bits.proofs.relation.Relation.covers.Goals as goal
 use Rattle.bits.specs.Relations.{Covers}
 use Rattle.bits.specs.Words.{word}
-use lib.Bits.{bit_or}
+use Rattle.std.specs.Int.Bits.{bit_or}
 
 pub loop-j-preserved : goal.loop-j-preserved
 loop-j-preserved c =
@@ -13,7 +13,7 @@ loop-j-preserved c =
     (λ j. bit_or (word t (z * c.args.to + j)) (word t (z * c.args.from + j)) ≡ word t (z * c.args.from + j))
     c.loop-j.j
     c.loop-j.invariant
-    (ap₂ bit_or (sym c.word-at.ensures) (sym c.word-at-mine.ensures) ∙ c.if-word-at-mine.false ∙ c.word-at-mine.ensures)
+    (ap₂ bit_or (sym c.word_at.ensures) (sym c.word_at-mine.ensures) ∙ c.if-word_at-mine.false ∙ c.word_at-mine.ensures)
 
 pub returns : goal.returns
 returns c e h =

@@ -1,7 +1,7 @@
 use Rattle.std.proofs.Common.{◌≡◌, ℕ, ◌+◌, ◌*◌, ◌<◌}
 use Rattle.bits.proofs.relation.Relation.covers.Given as goal
 use Rattle.bits.specs.Words.{word}
-use lib.Bits.{bit_or}
+use Rattle.std.specs.Int.Bits.{bit_or}
 
 abbrev pub invariant-loop-j : goal.invariant-loop-j
 invariant-loop-j l =
