@@ -1,7 +1,7 @@
 -- Tables to which no rule and no link has anything to add hold the whole exclusion closure.
 use Rattle.std.proofs.Common.{◌≡◌, ℕ, List, refl, subst}
 use Rattle.bits.proofs.Inheriting.{symmetric_on}
-use Rattle.bits.specs.Relations.{Symmetric, pair}
+use Rattle.bits.specs.Relations.{Symmetric}
 use Rattle.distinct.proofs.Members.{place_of}
 use Rattle.book.specs.Growth.{AllDone, ClassOn, Done, EmptyKnown, LinkOn, Sound}
 use Rattle.book.specs.Tables.{HoldsClosure}

@@ -1,5 +1,5 @@
 -- Steps of the two tables: from codes to classes and links, and one after another.
-use Rattle.std.proofs.Common.{◌≡◌, ℕ, ◌*◌, ◌<◌, Bool, true, false, ◌||◌, List, sym, refl, ◌∙◌, subst, inl, inr, arith}
+use Rattle.std.proofs.Common.{◌≡◌, ℕ, ◌*◌, ◌<◌, Bool, false, ◌||◌, List, sym, refl, ◌∙◌, subst, inl, inr, arith}
 use Rattle.bits.specs.Relations.{Covers, Grows, Inherited, Joined, On, base, flip, pass}
 use Rattle.book.specs.Growth.{ClassOn, ClassStep, ClassesPass, LinkOn, LinkStep, LinksPass, Sound, Went}
 use Rattle.std.proofs.lemmas.Bool.{false≢true, or_cases, or_parts}

@@ -74,7 +74,7 @@ fn print_sorted(rt: &HostRuntime, table: &[Record], count: usize) -> anyhow::Res
         let shown = Shown(record);
         lines.push(format!(in rt.alloc(); "{shown}")?)?;
     }
-    lines.sort();
+    lines.sort()?;
     for line in lines.iter() {
         println!(rt; "  {line}")?;
     }

@@ -1,5 +1,7 @@
 //! Asks questions whose rewritings are known, and prints them.
 
+#![tactic(auto)]
+
 mod asking;
 mod lines;
 mod samples;

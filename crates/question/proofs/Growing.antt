@@ -1,17 +1,20 @@
 -- Tables grow by sets of questions, one set after another.
-use Rattle.std.proofs.Common.{◌≡◌, ℕ, ◌+◌, ◌<◌, ◌⊎◌, List, [], ◌∷◌, ◌++◌, map, length, drop, Some, None, Ok, Err, Result, sym, refl, ap, ◌∙◌, subst, inl, inr, ⊎_elim, append_assoc, append-nil, arith, length-append, below_more}
+use Rattle.std.proofs.Common.{◌≡◌, ℕ, ◌+◌, ◌<◌, ◌⊎◌, Bool, Decides, List, [], ◌∷◌, ◌++◌, map, length, drop, Some, None, Ok, Err, Result, sym, refl, ap, ◌∙◌, subst, inl, inr, ⊎_elim, append_assoc, append-nil, arith, length-append, below_more}
 use Rattle.distinct.proofs.Members.{member_at, place_of}
 use Rattle.distinct.specs.Items.{items, spare}
 use Rattle.distinct.specs.Puts.{Outcome}
-use Rattle.distinct.specs.Repeats.{Absent, NoRepeats, Present}
+use Rattle.distinct.specs.Repeats.{Absent, Answers, NoRepeats, Present}
 use Rattle.distinct.specs.declared.Distinct.{Distinct}
+use Rattle.distinct.proofs.Decided.{no_repeats_like, outcome_like}
+use Rattle.distinct.specs.declared.Put.{Put}
 use Rattle.distinct.specs.declared.Put.TheVariants.{Added, Full, Stands}
 use Rattle.question.proofs.Exact.{some_none, some_same}
 use Rattle.question.specs.Growth.{Below, ByMerge, ByRule, Filled, Grown, Overfull, Same, Taken, atom_at, rows}
-use Rattle.question.specs.Records.{query}
+use Rattle.question.specs.Records.{query, query_eq, query_eq_same}
 use Rattle.question.specs.Steps.{made_by, merged_by, merging, replaced_by}
 use Rattle.question.specs.declared.merging.Merger.{Merger}
 use Rattle.question.specs.declared.record.Record.{Record}
+use Rattle.std.proofs.lemmas.Bool.Decides.{same_from_decides}
 use Rattle.std.proofs.lemmas.List.{drop-drop, map_push}
 use Rattle.std.proofs.lemmas.Bool.{false≢true}
 use Rattle.theory.proofs.Lists.{map_in, map_out}
@@ -23,6 +26,23 @@ use Rattle.vocabulary.specs.declared.questions.Atom.{Atom}
 use Rattle.vocabulary.specs.declared.rules.Rule.{Rule}
 use mathlib.Core.List.Memᴰ
 use mathlib.Core.List.{Memᴰ}
+
+-- records are equal where their questions are, so what the list answers by `==` it says of questions
+
+abbrev pub record_eq : Record → Record → Bool
+record_eq x y = query_eq (query x) (query y)
+
+answers_same : (x y : Record) (r : Bool) → Answers record_eq x y r → Same x y r
+answers_same x y r h = subst (λ (b : Bool). Decides b (query x ≡ query y)) (sym h) (query_eq_same (query x) (query y))
+
+same_answers : (x y : Record) (r : Bool) → Same x y r → Answers record_eq x y r
+same_answers x y r h = same_from_decides r (record_eq x y) h (query_eq_same (query x) (query y))
+
+pub put_same : (s t : Distinct Record) (x : Record) (r : Put) → Outcome (Answers record_eq) s x t r → Outcome Same s x t r
+put_same = outcome_like answers_same
+
+pub kept_same : (xs ys : List Record) → (NoRepeats (Answers record_eq) xs → NoRepeats (Answers record_eq) ys) → NoRepeats Same xs → NoRepeats Same ys
+kept_same xs ys keeps h = no_repeats_like answers_same ys (keeps (no_repeats_like same_answers xs h))
 
 -- what the list without repeats says of records, said of their questions
 present_row : (rs : List Record) (r : Record) → Present Same rs r → Memᴰ (query r) (map query rs)

@@ -1,5 +1,7 @@
 //! Questions and their rewritings by the rules of a sealed book.
 
+#![tactic(auto)]
+
 pub mod asked;
 mod changes;
 mod counts;

@@ -13,9 +13,8 @@ use vocabulary::numbers::Class;
 use vocabulary::questions::{Atom, Term};
 
 /// Opens the lone variables of a question.
+#[derive(Clone, Copy)]
 struct Opening(Parts);
-
-impl Copy for Opening {}
 
 impl Change for Opening {
     ghost change = { λ o. opened (lone (listed o.0.head) (all_terms (listed o.0.atoms))) };

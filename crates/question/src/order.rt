@@ -11,9 +11,8 @@ use crate::short::Short;
 use vocabulary::questions::{Atom, Term};
 
 /// Gives each variable its place in the order as its number.
+#[derive(Clone, Copy)]
 pub(crate) struct Order(Short<u8, 16>);
-
-impl Copy for Order {}
 
 /// Whether the variable `n` was seen.
 fn knows(n: u8, seen: &[u8]) -> bool

@@ -1,10 +1,9 @@
 //! Records: made from parts, read, and compared.
 
 ghost use Rattle.question.specs.Parts.{of_parts};
-ghost use Rattle.question.specs.Records.{query};
+ghost use Rattle.question.specs.Records.{query, query_eq, query_eq_same};
 ghost use Rattle.std.specs.Prelude.{◌≡◌, Decides};
-ghost use Rattle.std.specs.Cmp.Rules.{comparing};
-ghost use Rattle.std.proofs.Common.{rules, arith};
+ghost use Rattle.std.specs.Cmp as Keys;
 
 use crate::parts::Parts;
 use crate::record::Record;
@@ -63,11 +62,14 @@ impl Record {
 
 /// Two records are the same where their questions are, whatever lies behind the used places.
 impl PartialEq for Record {
-    ghost equals = { λ x y r. Decides r (query x ≡ query y) };
+    ghost eq = { λ x y. query_eq (query x) (query y) };
 
-    ghost laws = { first_of (Prim.search (comparing, rules), Prim.grind (arith, Self.row.coded.inj)) };
+    ghost laws = { Keys.on_per query (Keys.partial_equiv_from_equiv (Keys.decided query_eq query_eq_same)) };
 
-    fn eq(&self, other: &Record) -> bool {
+    fn eq(&self, other: &Record) -> bool
+        ensures value { result ≡ query_eq (query self.now) (query other.now) }
+        ensures same { Decides result (query self.now ≡ query other.now) }
+    {
         self.print == other.print && self.parts.same(&other.parts)
     }
 }

@@ -2,6 +2,8 @@
 
 ghost use Rattle.std.specs.Prelude.{◌≡◌, ◌≤◌, length};
 
+use std::alloc::AllocError;
+
 /// The list is the first `count` of `items`; what lies behind them says nothing.
 pub struct Short<T, const N: usize> {
     pub(crate) items: [T; N],
@@ -11,3 +13,13 @@ pub struct Short<T, const N: usize> {
 }
 
 impl<T: Copy, const N: usize> Copy for Short<T, N> {}
+
+impl<T: Copy, const N: usize> Clone for Short<T, N> {
+    ghost is_clone = { λ x y. y ≡ x };
+
+    ghost is_infallible = { λ _. Unit {0} };
+
+    fn clone(&self) -> Result<Short<T, N>, AllocError> {
+        Ok(*self)
+    }
+}

@@ -1,5 +1,7 @@
 //! Scripts of calls on a site file, and their answers.
 
+#![tactic(auto)]
+
 mod calls;
 mod closure;
 mod expected;

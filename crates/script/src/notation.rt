@@ -1,7 +1,6 @@
 //! Facts as scripts write them: `c5(7)` puts name 7 into class 5, `l1(7,8)` leads link 1 from name 7 to name 8.
 
 use crate::expected::Expected;
-use crate::report::written;
 use crate::words::{Words, code, number};
 use std::alloc::AllocError;
 use vocabulary::facts::Fact;
@@ -33,7 +32,7 @@ fn name(word: &str) -> Option<Name> {
 /// Writes a fact behind a blank.
 pub(crate) fn write(fact: Fact, out: &mut String) -> Result<(), AllocError> {
     match fact {
-        Fact::InClass(Class(c), Name(a)) => written(write!(out, " c{c}({a})")),
-        Fact::Linked(Link(l), Name(a), Name(b)) => written(write!(out, " l{l}({a},{b})")),
+        Fact::InClass(Class(c), Name(a)) => write!(out, " c{c}({a})"),
+        Fact::Linked(Link(l), Name(a), Name(b)) => write!(out, " l{l}({a},{b})"),
     }
 }

@@ -70,7 +70,7 @@ impl Report {
 
     pub(crate) fn answer(&mut self, line: Line, answer: Answer) -> Result<(), AllocError> {
         let call = line.call;
-        written(writeln!(self.text, "{call} => {answer}"))
+        writeln!(self.text, "{call} => {answer}")
     }
 
     /// Answers a call that makes something, and says whether it was not refused.
@@ -98,14 +98,6 @@ impl Report {
     pub(crate) fn error(&mut self, line: Line, expected: Expected) -> Result<(), AllocError> {
         let Line { number, call } = line;
         self.failed = true;
-        written(writeln!(self.text, "{call} => error: line {number}: {expected}"))
-    }
-}
-
-/// Writing to a `String` fails only where there is no memory.
-pub(crate) fn written(res: fmt::Result) -> Result<(), AllocError> {
-    match res {
-        Ok(()) => Ok(()),
-        Err(_) => Err(AllocError),
+        writeln!(self.text, "{call} => error: line {number}: {expected}")
     }
 }

@@ -5,7 +5,7 @@
 
 use crate::calls::{Call, Making};
 use crate::expected::Expected;
-use crate::report::{Line, Report, written};
+use crate::report::{Line, Report};
 use crate::rules::{NoDraft, Rules};
 use crate::shelf::{Held, NoStore, Shelf};
 use crate::stock::Stock;
@@ -215,7 +215,7 @@ fn listed<F: Shelf>(line: Line, shelf: &F, report: &mut Report) -> Result<(), Al
         return report.error(line, Expected::Making);
     }
     let call = line.call;
-    written(write!(report.text, "{call} => facts"))?;
+    write!(report.text, "{call} => facts")?;
     shelf.list(&mut report.text)?;
     report.text.push('\n')
 }

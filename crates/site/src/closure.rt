@@ -3,7 +3,7 @@
 ghost use Rattle.std.specs.Prelude.{Decides};
 ghost use Rattle.site.specs.Forms.{Least, NotAfter};
 
-use crate::report::{Line, Report, written};
+use crate::report::{Line, Report};
 use book::book::Book;
 use std::alloc::AllocError;
 use vocabulary::basic::{Basic, Directed};
@@ -11,7 +11,7 @@ use vocabulary::basic::{Basic, Directed};
 /// Answers the call that sealed a book: the pairs of basic classes, and then those of links.
 pub(crate) fn answer(line: Line, book: Book, report: &mut Report) -> Result<(), AllocError> {
     let call = line.call;
-    written(write!(report.text, "{call} => closure"))?;
+    write!(report.text, "{call} => closure")?;
     classes(&book, &mut report.text)?;
     links(&book, &mut report.text)?;
     report.text.push('\n')
@@ -22,7 +22,7 @@ fn classes(book: &Book, out: &mut String) -> Result<(), AllocError> {
         for b in a..128u8 {
             if let (Ok(first), Ok(second)) = (Basic::from_code(a), Basic::from_code(b)) {
                 if book.classes_apart(first, second) {
-                    written(write!(out, " {a}-{b}"))?;
+                    write!(out, " {a}-{b}")?;
                 }
             }
         }
@@ -35,7 +35,7 @@ fn links(book: &Book, out: &mut String) -> Result<(), AllocError> {
         for b in a..64u8 {
             if let (Ok(first), Ok(second)) = (Directed::from_code(a), Directed::from_code(b)) {
                 if is_least(first, second) && book.links_apart(first, second) {
-                    written(write!(out, " l{a}-{b}"))?;
+                    write!(out, " l{a}-{b}")?;
                 }
             }
         }

@@ -2,6 +2,8 @@
 //!
 //! `site FILE..` reads each file as a script of its own, and standard input where no file is named.
 
+#![tactic(auto)]
+
 mod calls;
 mod closure;
 mod expected;

@@ -60,21 +60,13 @@ impl Report {
 
     pub(crate) fn answer(&mut self, line: Line, answer: Answer) -> Result<(), AllocError> {
         let call = line.call;
-        written(writeln!(self.text, "{call} => {answer}"))
+        writeln!(self.text, "{call} => {answer}")
     }
 
     /// Says what was expected in a line.
     pub(crate) fn error(&mut self, line: Line, expected: Expected) -> Result<(), AllocError> {
         let Line { number, call } = line;
         self.failed = true;
-        written(writeln!(self.text, "{call} => error: line {number}: {expected}"))
-    }
-}
-
-/// Writing to a `String` fails only where there is no memory.
-pub(crate) fn written(res: fmt::Result) -> Result<(), AllocError> {
-    match res {
-        Ok(()) => Ok(()),
-        Err(_) => Err(AllocError),
+        writeln!(self.text, "{call} => error: line {number}: {expected}")
     }
 }

@@ -24,16 +24,16 @@ returns-in-Apart c = record {
 }
 
 pub returns-in-LinkWithin : goal.returns-in-LinkWithin
-returns-in-LinkWithin c = record { strides = c.apply-link-within.ensures.strides; went = for_rule c.in-LinkWithin.is c.apply-link-within.ensures.went }
+returns-in-LinkWithin c = record { strides = c.apply_link_within.ensures.strides; went = for_rule c.in-LinkWithin.is c.apply_link_within.ensures.went }
 
 pub returns-in-LinkApart : goal.returns-in-LinkApart
 returns-in-LinkApart c =
     let b = c.args.basic.now.bits.words.now in
     record {
-      strides = (c.requires.1.0, c.exclude-link-any-in-LinkApart.ensures.stride);
+      strides = (c.requires.1.0, c.exclude_link-any-in-LinkApart.ensures.stride);
       went = for_rule c.in-LinkApart.is
           (apart_turned c.in-LinkApart.d c.in-LinkApart.e c.turn.result c.turn-in-LinkApart.result c.turn.ensures c.turn-in-LinkApart.ensures
-          (c.exclude-link-any.ensures.went b) (c.exclude-link-any-in-LinkApart.ensures.went b));
+          (c.exclude_link-any.ensures.went b) (c.exclude_link-any-in-LinkApart.ensures.went b));
     }
 
 pub returns-in-Single : goal.returns-in-Single

@@ -7,7 +7,7 @@ pub returns : goal.returns
 returns c =
     let rules = c.args.rules.now in
     record {
-      strides = c.spread-all-any.ensures.strides;
+      strides = c.spread_all-any.ensures.strides;
       went = went_then {C = DoneFirst rules (length rules)} {D = EmptyKnownBelow c.args.family 32} (λ x y. (x, y))
-          (went_like (λ f all e. e.1) (λ x. x) c.apply-all-any.ensures.went) (went_like (λ f all e. e.0) (λ x. x) c.spread-all-any.ensures.went);
+          (went_like (λ f all e. e.1) (λ x. x) c.apply_all-any.ensures.went) (went_like (λ f all e. e.0) (λ x. x) c.spread_all-any.ensures.went);
     }

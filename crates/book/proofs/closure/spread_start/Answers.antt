@@ -19,7 +19,7 @@ returns-then-has c =
       on = on_at c.args.basic.now.stride i i 2 (basic_code (Start d)) (basic_code (Start d)) c.requires.1.0 code code s (c.if-has.ensures.0 refl);
     } in
     record {
-      stride = c.exclude-link.ensures.stride;
-      went = went_given (λ family rules same old. empty_link (subst LinksToo (sym same) (c.if-links-too.ensures.0 refl)) (old.of_classes (Start d) (Start d) start))
-          (λ o _ _. o) (c.exclude-link.ensures.went s);
+      stride = c.exclude_link.ensures.stride;
+      went = went_given (λ family rules same old. empty_link (subst LinksToo (sym same) (c.if-links_too.ensures.0 refl)) (old.of_classes (Start d) (Start d) start))
+          (λ o _ _. o) (c.exclude_link.ensures.went s);
     }

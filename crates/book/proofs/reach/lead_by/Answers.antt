@@ -14,7 +14,7 @@ pub returns-in-Within : goal.returns-in-Within
 returns-in-Within c = for_rule c.in-Within.is (spreads_like (λ rules m. class_step (by_rule m)) (λ i. i) c.lead.ensures)
 
 pub returns-in-LinkWithin : goal.returns-in-LinkWithin
-returns-in-LinkWithin c = for_rule c.in-LinkWithin.is c.lead-link.ensures
+returns-in-LinkWithin c = for_rule c.in-LinkWithin.is c.lead_link.ensures
 
 pub returns-in-Apart : goal.returns-in-Apart
 returns-in-Apart c = for_rule c.in-Apart.is (spreads_none tt)

@@ -6,12 +6,12 @@ use Rattle.theory.specs.Tidying.{firsts, all_terms}
 use Rattle.vocabulary.specs.declared.questions.Atom.{Atom}
 use Rattle.std.proofs.Common.{List, length, ap, ◌∙◌, arith}
 
-pub noted-atom-made-requires : goal.noted-atom-made-requires
-noted-atom-made-requires c = omega (arith, listed_few c.args.xs.now, ap length c.all-all.ensures)
+pub noted_atom-made-requires : goal.noted_atom-made-requires
+noted_atom-made-requires c = omega (arith, listed_few c.args.xs.now, ap length c.all-all.ensures)
 
 pub loop-a-preserved : goal.loop-a-preserved
 loop-a-preserved c =
-    (body_turn _ _ _ _ _ _ c.loop-a-test.true c.noted-atom-made.ensures c.loop-a.invariant.0, body_room _ _ _ _ c.noted-atom-made.ensures c.loop-a.invariant.1)
+    (body_turn _ _ _ _ _ _ c.loop-a-test.true c.noted_atom-made.ensures c.loop-a.invariant.0, body_room _ _ _ _ c.noted_atom-made.ensures c.loop-a.invariant.1)
 
 pub returns : goal.returns
 returns c =

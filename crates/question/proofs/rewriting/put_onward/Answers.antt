@@ -10,20 +10,20 @@ loop-done-smaller c = omega (arith, count_within c.loop-done.table.len c.loop-do
 
 pub loop-done-preserved : goal.loop-done-preserved
 loop-done-preserved c =
-    let e = c.in-ok-put-next.ensures in
+    let e = c.in_ok-put_next.ensures in
     let low : c.loop-done.done < length (items c.loop-done.table) = omega (arith, c.len.ensures) in (
       λ q before w. working_turn c.index-items-done.result _ q before _ _ _ _ low (item_is _ _ _ _ c.items.ensures c.index-items-done.is) (c.loop-done.invariant.0 q before w) e.taken,
       e.taken.grown.size ∙ c.loop-done.invariant.1,
       e.lent ∙ c.loop-done.invariant.2,
     )
 
-pub returns-in-err-put-next : goal.returns-in-err-put-next
-returns-in-err-put-next c =
-    let p = err_from_is_err_and c.from-residual.result c.from-residual.ensures.1 in
-    let e = c.in-err-put-next.ensures in
+pub returns-in_err-put_next : goal.returns-in_err-put_next
+returns-in_err-put_next c =
+    let p = err_from_is_err_and c.from_residual.result c.from_residual.ensures.1 in
+    let e = c.in_err-put_next.ensures in
     let low : c.loop-done.done < length (items c.loop-done.table) = omega (arith, c.len.ensures) in
     record {
-      worked = λ q before w. worked_exit _ q before c.put-next.new.table _ _ _ p.1 p.2 e.taken.0
+      worked = λ q before w. worked_exit _ q before c.put_next.new.table _ _ _ p.1 p.2 e.taken.0
           (working_over c.index-items-done.result _ q before _ _ _ _ low (item_is _ _ _ _ c.items.ensures c.index-items-done.is) (c.loop-done.invariant.0 q before w) e.taken.1);
       lent = e.lent ∙ c.loop-done.invariant.2;
     }

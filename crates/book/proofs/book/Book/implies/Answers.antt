@@ -1,10 +1,11 @@
 use Rattle.book.proofs.Listing.{all_fit}
-use Rattle.distinct.proofs.Sameness.{member_told}
+use Rattle.distinct.proofs.Decided.{member_answered}
 use Rattle.book.proofs.Spreading.{class_reaches, link_reaches, own_kind}
 use Rattle.book.proofs.book.Book.implies.Goals as goal
 use Rattle.std.proofs.lemmas.Bool.Decides.{Decides-like, Decides-or}
 use Rattle.std.proofs.Common.{◌≡◌, Bool, ◌||◌, List, Decides, sym, subst}
 use Rattle.theory.specs.Following.{Implied}
+use Rattle.vocabulary.specs.Equality.{rule_eq, rule_eq_same}
 use Rattle.vocabulary.specs.Ranges.{RuleFits}
 use Rattle.vocabulary.specs.declared.rules.Family.{Family}
 use Rattle.vocabulary.specs.declared.rules.Rule.{Rule}
@@ -47,4 +48,4 @@ returns-in-Single c =
     let x = c.contains.result in
     let y = c.empties-in-Single.result in
     for_rule s.family s.rules.now (x || y) c.in-Single.is
-    (Decides-or x y (member_told s.rules.now (Single c.in-Single.d) x c.contains.ensures.cases) c.empties-in-Single.ensures)
+    (Decides-or x y (member_answered rule_eq rule_eq_same s.rules.now (Single c.in-Single.d) x c.contains.ensures.cases) c.empties-in-Single.ensures)

@@ -1,4 +1,7 @@
 use Rattle.book.proofs.Listing.{full_length, room_left}
+use Rattle.distinct.proofs.Decided.{kept_same, outcome_same}
+use Rattle.distinct.specs.declared.Put.TheVariants.{Added, Full, Stands}
+use Rattle.vocabulary.specs.Equality.{rule_eq, rule_eq_same}
 use Rattle.distinct.proofs.Sameness.{Same, absent_not, all_put, different_repeats, present_member, repeats_different}
 use Rattle.book.proofs.draft.Draft.enter.Goals as goal
 use Rattle.book.specs.Entries.{Admitted, book_full, not_of_family, out_of_range}
@@ -23,24 +26,23 @@ returns-then-not-takes c = record {
   tables = (refl, refl);
 }
 
-pub invariant-of-self : goal.invariant-of-self
-invariant-of-self c =
+pub invariant_of-self : goal.invariant_of-self
+invariant_of-self c =
     let s = c.args.self.now in
     let t = c.put.new.self in
     let e = c.put.ensures in
-    let fine : Admitted s.family c.args.rule = record { fits = c.if-not-fits.ensures.0 refl; taken = c.if-not-takes.ensures.0 refl } in (
-      (e.room ∙ s.sized.0, s.sized.1, s.sized.2),
-      (
-        ∥∥₁_map s.admitted (all_put Same (Admitted s.family) s.rules t c.args.rule c.put.result e.outcome fine),
-        (∥∥₁_map s.different (λ h. repeats_different (items t) (e.distinct (different_repeats (items s.rules) h))), tt),
-      ),
-    )
+    let fine : Admitted s.family c.args.rule = record { fits = c.if-not-fits.ensures.0 refl; taken = c.if-not-takes.ensures.0 refl } in
+    record {
+      sized = (e.room ∙ s.sized.0, s.sized.1, s.sized.2);
+      admitted = ∥∥₁_map s.admitted (all_put Same (Admitted s.family) s.rules t c.args.rule c.put.result (outcome_same rule_eq rule_eq_same s.rules t c.args.rule c.put.result e.outcome) fine);
+      different = ∥∥₁_map s.different (λ h. repeats_different (items t) (kept_same rule_eq rule_eq_same (items s.rules) (items t) e.distinct (different_repeats (items s.rules) h)));
+    }
 
 pub returns-in-Added : goal.returns-in-Added
 returns-in-Added c =
     let s = c.args.self.now in
     let fine : Admitted s.family c.args.rule = record { fits = c.if-not-fits.ensures.0 refl; taken = c.if-not-takes.ensures.0 refl } in
-    let o = c.in-Added.ensures.outcome in
+    let o = outcome_same rule_eq rule_eq_same s.rules c.put.new.self c.args.rule Added c.in-Added.ensures.outcome in
     record {
       entered = (fine, absent_not (items s.rules) c.args.rule o.0, room_left s.rules.len s.rules.places.now s.sized.0 o.1, o.2);
       places = o.3;
@@ -52,7 +54,7 @@ pub returns-in-Stands : goal.returns-in-Stands
 returns-in-Stands c =
     let s = c.args.self.now in
     let fine : Admitted s.family c.args.rule = record { fits = c.if-not-fits.ensures.0 refl; taken = c.if-not-takes.ensures.0 refl } in
-    let o = c.in-Stands.ensures.outcome in
+    let o = outcome_same rule_eq rule_eq_same s.rules c.put.new.self c.args.rule Stands c.in-Stands.ensures.outcome in
     record {
       entered = (fine, present_member (items s.rules) c.args.rule o.0, o.1);
       places = o.2;
@@ -64,7 +66,7 @@ pub returns-in-Full : goal.returns-in-Full
 returns-in-Full c =
     let s = c.args.self.now in
     let fine : Admitted s.family c.args.rule = record { fits = c.if-not-fits.ensures.0 refl; taken = c.if-not-takes.ensures.0 refl } in
-    let o = c.in-Full.ensures.outcome in
+    let o = outcome_same rule_eq rule_eq_same s.rules c.put.new.self c.args.rule Full c.in-Full.ensures.outcome in
     record {
       entered = (book_full fine (absent_not (items s.rules) c.args.rule o.0) (full_length s.rules.len s.rules.places.now s.sized.0 o.1), o.2);
       places = o.3;

@@ -1,8 +1,7 @@
 use Rattle.std.proofs.Common.{◌≡◌, ℕ, ◌*◌, List, length, sym, refl, ap, ◌∙◌, subst}
 use Rattle.book.proofs.Listing.{all_fit}
 use Rattle.book.proofs.draft.Draft.seal.Goals as goal
-use Rattle.book.specs.Entries.{Admitted}
-use Rattle.distinct.specs.Repeats.{Different}
+use Rattle.book.specs.Entries.{Admitted, Different}
 use Rattle.book.specs.Growth.{AllFit}
 use Rattle.book.specs.Tables.{HoldsClosure}
 use Rattle.distinct.specs.Items.{items}
@@ -14,7 +13,7 @@ use mathlib.Core.Logic.{∥∥₁_map}
 pub close-requires : goal.close-requires
 close-requires c =
     let s = c.args.self in (
-      subst AllFit (sym c.into-items-rules.ensures) (all_fit s.family (items s.rules) s.admitted),
+      subst AllFit (sym c.into_items-rules.ensures) (all_fit s.family (items s.rules) s.admitted),
       (
         (c.none-basic.ensures.stride, c.none-linked.ensures.stride),
         record {
@@ -30,26 +29,26 @@ sealed_tables {family} {rules} {items} {b} {b'} {l} {l'} er eb el h =
     subst (λ (r : List Rule). HoldsClosure family r b' l') er
     (subst (λ (t : List ℕ). HoldsClosure family rules t l') (sym eb) (subst (λ (t : List ℕ). HoldsClosure family rules b t) (sym el) h))
 
-pub invariant-of-result : goal.invariant-of-result
-invariant-of-result c =
+pub invariant_of-result : goal.invariant_of-result
+invariant_of-result c =
     let s = c.args.self in
     let b = c.close.new.basic in
     let l = c.close.new.linked in
     let strides = c.close.ensures.strides in
-    let same = sym c.into-items-rules.ensures in (
-      (
-        ap length c.into-words.ensures ∙ b.sized ∙ ap (λ (n : ℕ). 64 * (n * n)) strides.0,
-        ap length c.into-words-2.ensures ∙ l.sized ∙ ap (λ (n : ℕ). 64 * (n * n)) strides.1,
-      ),
-      (
-        ∥∥₁_map s.admitted (subst (AllByRecursion (Admitted s.family)) same),
-        (∥∥₁_map s.different (subst Different same), (∣ sealed_tables refl c.into-words.ensures c.into-words-2.ensures c.close.ensures.closure ∣₁, tt)),
-      ),
-    )
+    let same = sym c.into_items-rules.ensures in
+    record {
+      sized = (
+        ap length c.into_words.ensures ∙ b.sized ∙ ap (λ (n : ℕ). 64 * (n * n)) strides.0,
+        ap length c.into_words-2.ensures ∙ l.sized ∙ ap (λ (n : ℕ). 64 * (n * n)) strides.1,
+      );
+      admitted = ∥∥₁_map s.admitted (subst (AllByRecursion (Admitted s.family)) same);
+      different = ∥∥₁_map s.different (subst Different same);
+      closed = ∣ sealed_tables refl c.into_words.ensures c.into_words-2.ensures c.close.ensures.closure ∣₁;
+    }
 
 pub returns : goal.returns
 returns c = record {
   family = refl;
-  rules = c.into-items-rules.ensures;
-  closure = sealed_tables c.into-items-rules.ensures c.into-words.ensures c.into-words-2.ensures c.close.ensures.closure;
+  rules = c.into_items-rules.ensures;
+  closure = sealed_tables c.into_items-rules.ensures c.into_words.ensures c.into_words-2.ensures c.close.ensures.closure;
 }

@@ -6,15 +6,15 @@ use Rattle.std.specs.List.{AllByRecursion}
 use Rattle.theory.specs.Tidying.{all_terms, times}
 use Rattle.vocabulary.specs.declared.questions.Atom.{Atom}
 
-pub returns-then-occurrences-in-eq0 : goal.returns-then-occurrences-in-eq0
-returns-then-occurrences-in-eq0 c =
+pub returns-then-occurrences_in-eq0 : goal.returns-then-occurrences_in-eq0
+returns-then-occurrences_in-eq0 c =
     subst (λ (xs : List Atom). Decides false (AllByRecursion (λ n. 0 < times n (all_terms xs)) c.args.self.now.head.now)) c.requires.same
-    (one_fails (λ n. 0 < times n (all_terms c.args.atoms.now)) c.args.self.now.head.now c.loop-n.n-index 0 c.loop-n-test.true (λ h. omega (arith, c.occurrences-in.ensures, c.if-occurrences-in-eq0.true)))
+    (one_fails (λ n. 0 < times n (all_terms c.args.atoms.now)) c.args.self.now.head.now c.loop-n.n-index 0 c.loop-n-test.true (λ h. omega (arith, c.occurrences_in.ensures, c.if-occurrences_in-eq0.true)))
 
 pub loop-n-preserved : goal.loop-n-preserved
 loop-n-preserved c =
     All-more (λ n. 0 < times n (all_terms c.args.atoms.now)) c.args.self.now.head.now c.loop-n.n-index 0 c.loop-n-test.true c.loop-n.invariant
-    (omega (arith, c.occurrences-in.ensures, c.if-occurrences-in-eq0.false))
+    (omega (arith, c.occurrences_in.ensures, c.if-occurrences_in-eq0.false))
 
 pub returns : goal.returns
 returns c =

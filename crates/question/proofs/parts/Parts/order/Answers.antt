@@ -7,4 +7,4 @@ use Rattle.std.proofs.Common.{[], sym, ap, ◌∙◌}
 pub returns : goal.returns
 returns c =
     let r = c.args.self.now in
-    c.noted-atoms.ensures ∙ ap (firsts (all_terms (listed r.atoms))) c.noted-head.ensures.0 ∙ sym (firsts_append (listed r.head) (all_terms (listed r.atoms)) [])
+    c.noted_atoms.ensures ∙ ap (firsts (all_terms (listed r.atoms))) c.noted_head.ensures.0 ∙ sym (firsts_append (listed r.head) (all_terms (listed r.atoms)) [])

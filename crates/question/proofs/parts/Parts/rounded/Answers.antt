@@ -13,5 +13,5 @@ loop-i-preserved c = rounds_more _ _ _ _ c.loop-i.invariant c.round-made.ensures
 
 pub returns : goal.returns
 returns c =
-    let e : c.loop-i.-i ≡ length (listed c.args.self.atoms) + 1 = omega arith in
+    let e : c.loop-i._i ≡ length (listed c.args.self.atoms) + 1 = omega arith in
     c.loop-i.invariant ∙ ap (λ (n : ℕ). rounds n (of_parts c.args.self)) e

@@ -10,38 +10,38 @@ pub returns : goal.returns
 returns c =
     let q = query c.args.self.now in
     let before = c.args.places.now in
-    let after = c.put-onward.new.table.places.now in
+    let after = c.put_onward.new.table.places.now in
     let new = c.new-table.ensures in
-    let start = working_start c.rules.result.now q before _ _ (blank before _ new.empty new.places new.room) c.in-ok-put.ensures.taken in
-    let done = c.in-ok-put-onward.ensures.worked q before start in
+    let start = working_start c.rules.result.now q before _ _ (blank before _ new.empty new.places new.room) c.in_ok-put.ensures.taken in
+    let done = c.in_ok-put_onward.ensures.worked q before start in
     let all : AllRewritings c.args.book.now.rules.now q before after c.len.result
     = subst (λ (rs : List Rule). AllRewritings rs q before after c.len.result) c.rules.ensures
     (subst (λ (n : ℕ). AllRewritings c.rules.result.now q before after n) (sym c.len.ensures) done) in
     search (rules, held_all)
 
-pub returns-in-err-put : goal.returns-in-err-put
-returns-in-err-put c =
-    let p = err_from_is_err_and c.from-residual.result c.from-residual.ensures.1 in
-    let rules = c.args.book.now.rules.now in
+pub returns-in_err-put : goal.returns-in_err-put
+returns-in_err-put c =
+    let p = err_from_is_err_and c.from_residual.result c.from_residual.ensures.1 in
+    let all = c.args.book.now.rules.now in
     let q = query c.args.self.now in
     let before = c.args.places.now in
     let after = c.put.new.table.places.now in
     let new = c.new-table.ensures in
-    let e = c.in-err-put.ensures.taken in
-    let over : Enumerated rules q before after c.from-residual.result
-    = at_exit rules q before after _ _ _ p.1 p.2 e.0 (start_over rules q before _ _ (blank before _ new.empty new.places new.room) e.1) in
-    search (rules, held rules q before after c.from-residual.result)
+    let e = c.in_err-put.ensures.taken in
+    let over : Enumerated all q before after c.from_residual.result
+    = at_exit all q before after _ _ _ p.1 p.2 e.0 (start_over all q before _ _ (blank before _ new.empty new.places new.room) e.1) in
+    search (rules, held all q before after c.from_residual.result)
 
-pub returns-in-err-put-onward : goal.returns-in-err-put-onward
-returns-in-err-put-onward c =
-    let p = err_from_is_err_and c.from-residual-in-err-put-onward.result c.from-residual-in-err-put-onward.ensures.1 in
-    let rules = c.args.book.now.rules.now in
+pub returns-in_err-put_onward : goal.returns-in_err-put_onward
+returns-in_err-put_onward c =
+    let p = err_from_is_err_and c.from_residual-in_err-put_onward.result c.from_residual-in_err-put_onward.ensures.1 in
+    let all = c.args.book.now.rules.now in
     let q = query c.args.self.now in
     let before = c.args.places.now in
-    let after = c.put-onward.new.table.places.now in
+    let after = c.put_onward.new.table.places.now in
     let new = c.new-table.ensures in
-    let start = working_start c.rules.result.now q before _ _ (blank before _ new.empty new.places new.room) c.in-ok-put.ensures.taken in
-    let e = c.in-err-put-onward.ensures.worked q before start in
-    let over : Enumerated rules q before after c.from-residual-in-err-put-onward.result
-    = at_exit rules q before after _ _ _ p.1 p.2 e.0 (subst (λ (rs : List Rule). MoreRewritings rs q after) c.rules.ensures e.1) in
-    search (rules, held rules q before after c.from-residual-in-err-put-onward.result)
+    let start = working_start c.rules.result.now q before _ _ (blank before _ new.empty new.places new.room) c.in_ok-put.ensures.taken in
+    let e = c.in_err-put_onward.ensures.worked q before start in
+    let over : Enumerated all q before after c.from_residual-in_err-put_onward.result
+    = at_exit all q before after _ _ _ p.1 p.2 e.0 (subst (λ (rs : List Rule). MoreRewritings rs q after) c.rules.ensures e.1) in
+    search (rules, held all q before after c.from_residual-in_err-put_onward.result)

@@ -14,8 +14,8 @@ loop-k-preserved g c =
       length-set _ _ _ ∙ c.loop-k.invariant.2,
     )
 
-pub invariant-of-result : goal.invariant-of-result
-invariant-of-result g c = (omega (arith, c.args.self.few), (c.loop-k.invariant.2 ∙ c.args.self.full, tt))
+pub invariant_of-result : goal.invariant_of-result
+invariant_of-result g c = record { few = omega (arith, c.args.self.few); full = c.loop-k.invariant.2 ∙ c.args.self.full }
 
 pub returns : goal.returns
 returns g c =
