@@ -1,5 +1,5 @@
 -- A list with one fact more at some place: what it has, and what it is without that fact.
-use Rattle.std.proofs.Common.{◌≡◌, ◌+◌, Bool, false, cond, not, ◌⊎◌, List, [], ◌∷◌, ◌++◌, sym, refl, ap, ◌∙◌, subst, ap₂, inl, inr, append-nil, arith, length-append}
+use Rattle.std.proofs.Common.{◌≡◌, Bool, false, cond, not, ◌⊎◌, List, [], ◌∷◌, ◌++◌, sym, refl, ap, ◌∙◌, subst, ap₂, inl, inr, append-nil, arith, length-append}
 use Rattle.distinct.proofs.Sameness.{Parted, parted_lacks}
 use Rattle.distinct.specs.Repeats.{Different}
 use Rattle.facts.proofs.Equality.{same_is, same_self}
