@@ -5,16 +5,16 @@ use Rattle.std.proofs.lemmas.Bool.Decides.{not_from_Decides}
 use Rattle.std.specs.List.{slice_get}
 use Rattle.std.proofs.Common.{◌≡◌, Some, None, arith, below_more}
 
-pub outer-preserved-in-default : goal.outer-preserved-in-default
-outer-preserved-in-default g c =
+pub outer-preserved-in_default : goal.outer-preserved-in_default
+outer-preserved-in_default g c =
     let book = c.args.book.now in
     let xs = g.S.Source.facts c.args.source.now in
     let i = c.outer.i in
     let none : slice_get xs i ≡ None = cc in
     (c.outer.invariant.0, below_more _ _ c.outer.invariant.1 (λ m _. past_calm book.family book.rules.now xs i m none))
 
-pub loop-j-preserved-in-default-at : goal.loop-j-preserved-in-default-at
-loop-j-preserved-in-default-at g c =
+pub loop-j-preserved-in_default-at : goal.loop-j-preserved-in_default-at
+loop-j-preserved-in_default-at g c =
     let book = c.args.book.now in
     let xs = g.S.Source.facts c.args.source.now in
     let j = c.loop-j.j in
