@@ -100,6 +100,9 @@ module _ (t : List ℕ) (m : ℕ) (h : m / 64 < length t) where
   pub marked_inside : Marked m t after
   marked_inside = record { kept = length-set t (m / 64) (marked (get_or t (m / 64) 0) (m % 64)); here = λ _. after_here; others = after_others }
 
+pub marked_past : (t : List ℕ) (m : ℕ) → length t ≤ m / 64 → Marked m t t
+marked_past t m h = record { kept = refl; here = λ l. absurd (omega arith); others = λ k ne. refl }
+
 -- ---- a table of zeros, and past the end of a table
 
 pub bit_past : (t : List ℕ) (m : ℕ) → length t ≤ m / 64 → bit t m ≡ false
