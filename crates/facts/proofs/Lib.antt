@@ -1,4 +1,3 @@
-pub mod Equality
 pub mod Listing
 pub mod Nth
 pub mod Places

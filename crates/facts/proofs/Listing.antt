@@ -1,10 +1,10 @@
 -- A list with one fact more at some place: what it has, and what it is without that fact.
+use Rattle.vocabulary.specs.Equality.{fact_eq, fact_eq_same}
 use Rattle.std.proofs.Common.{◌≡◌, Bool, false, cond, not, ◌⊎◌, List, [], ◌∷◌, ◌++◌, sym, refl, ap, ◌∙◌, subst, ap₂, inl, inr, append-nil, arith, length-append}
 use Rattle.distinct.proofs.Sameness.{Parted, parted_lacks}
 use Rattle.distinct.specs.Repeats.{Different}
-use Rattle.facts.proofs.Equality.{same_is, same_self}
 use Rattle.facts.specs.Changes.{Added}
-use Rattle.facts.specs.Listings.{same_fact, without}
+use Rattle.facts.specs.Listings.{without}
 use Rattle.std.proofs.lemmas.List.Elements.{filter-append}
 use Rattle.std.proofs.lemmas.Bool.{cases_Bool}
 use Rattle.vocabulary.specs.declared.facts.Fact.{Fact}
@@ -16,7 +16,7 @@ module _ (f : Fact) where
   pub without_absent : (xs : List Fact) → (Memᴰ f xs → ⊥) → without f xs ≡ xs
   without_absent [] out = refl
   without_absent (x ∷ xs) out =
-      let other : same_fact f x ≡ false = elim (cases_Bool (same_fact f x)) [ inl e ↦ absurd (out (Memᴰ.head (same_is f x e))) | inr e ↦ e ] in
+      let other : fact_eq f x ≡ false = elim (cases_Bool (fact_eq f x)) [ inl e ↦ absurd (out (Memᴰ.head ((fact_eq_same f x).0 e))) | inr e ↦ e ] in
       ap (λ (b : Bool). cond (not b) (x ∷ without f xs) (without f xs)) other ∙ ap (λ (ys : List Fact). x ∷ ys) (without_absent xs (λ m. out (Memᴰ.tail m)))
 
   module _ (front back : List Fact) where
@@ -42,9 +42,9 @@ module _ (f : Fact) where
 
       pub without_put : without f (front ++ f ∷ back) ≡ front ++ back
       without_put =
-          filter-append (λ g. not (same_fact f g)) front (f ∷ back)
+          filter-append (λ g. not (fact_eq f g)) front (f ∷ back)
           ∙ ap₂ (λ (xs ys : List Fact). xs ++ ys) (without_absent front (λ m. out (Memᴰ.append_left back m)))
-          (ap (λ (b : Bool). cond (not b) (f ∷ without f back) (without f back)) (same_self f) ∙ without_absent back (λ m. out (Memᴰ.append_right front m)))
+          (ap (λ (b : Bool). cond (not b) (f ∷ without f back) (without f back)) ((fact_eq_same f f).1 refl) ∙ without_absent back (λ m. out (Memᴰ.append_right front m)))
 
 -- f behind all others
 pub appended_added : (xs : List Fact) (f : Fact) → (Memᴰ f xs → ⊥) → {ys : List Fact} → ys ≡ xs ++ f ∷ [] → Added f xs ys

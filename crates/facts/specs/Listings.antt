@@ -1,4 +1,5 @@
 -- The lists that a store of facts has after an entry and after a withdrawal, where their order is settled.
+use Rattle.vocabulary.specs.Equality.{fact_eq}
 use Rattle.std.specs.Prelude.{◌≡◌, Bool, true, false, cond, not, ◌&&◌, ◌||◌, List, [], ◌∷◌, ◌++◌, Ok, Err, filter, Result, ◌==◌, nat_lt}
 use Rattle.vocabulary.specs.declared.effects.Effect.{Effect}
 use Rattle.vocabulary.specs.declared.effects.Effect.TheVariants.{Changed, Unchanged}
@@ -6,16 +7,9 @@ use Rattle.vocabulary.specs.declared.facts.Fact.{Fact}
 use Rattle.vocabulary.specs.declared.facts.Fact.TheVariants.{InClass, Linked}
 use Rattle.vocabulary.specs.declared.faults.Fault.{Fault}
 
--- equal facts
-abbrev pub same_fact : Fact → Fact → Bool
-same_fact (InClass c a) (InClass d b) = c.0 == d.0 && a.0 == b.0
-same_fact (InClass c a) (Linked l x y) = false
-same_fact (Linked l x y) (InClass c a) = false
-same_fact (Linked l a b) (Linked m x y) = l.0 == m.0 && (a.0 == x.0 && b.0 == y.0)
-
 -- the list without f; all else keeps its order
 abbrev pub without : Fact → List Fact → List Fact
-without f xs = filter (λ g. not (same_fact f g)) xs
+without f xs = filter (λ g. not (fact_eq f g)) xs
 
 -- f behind all others
 abbrev pub appended : Fact → List Fact → List Fact

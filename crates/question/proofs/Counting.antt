@@ -1,8 +1,9 @@
 -- Loops that count a variable, and one that looks for an atom.
+use Rattle.vocabulary.specs.Equality.{atom_eq}
 use Rattle.std.proofs.Common.{◌≡◌, ℕ, ◌+◌, ◌<◌, ◌≤◌, true, false, ◌||◌, List, [], ◌∷◌, length, get_or, drop, sym, refl, ap, ◌∙◌, arith}
 use Rattle.std.proofs.lemmas.List.{at_drop_more, at_drop_all}
 use Rattle.theory.proofs.Occurrences.{times_cons}
-use Rattle.theory.specs.Tidying.{same_atom, stands_in, times, all_terms}
+use Rattle.theory.specs.Tidying.{stands_in, times, all_terms}
 use Rattle.vocabulary.specs.declared.questions.Atom.TheVariants.{IsIn, Joins}
 use Rattle.vocabulary.specs.declared.questions.Atom.{Atom}
 use Rattle.vocabulary.specs.declared.questions.Term.{Term}
@@ -36,11 +37,11 @@ pub count_atom_end : (n : ℕ) (xs : List Atom) (i : ℕ) → length xs ≤ i �
 count_atom_end n xs i h = at_drop_all (λ ys. times n (all_terms ys)) xs i h ∙ times_no_atoms n
 
 -- a turn of a loop that looks for an atom
-pub stands_here : (d : Atom) (a : Atom) (xs : List Atom) (i : ℕ) → i < length xs → true ≡ same_atom a (get_or xs i d) → true ≡ stands_in a (drop i xs)
+pub stands_here : (d : Atom) (a : Atom) (xs : List Atom) (i : ℕ) → i < length xs → true ≡ atom_eq a (get_or xs i d) → true ≡ stands_in a (drop i xs)
 unfolding stands_in
 stands_here d a xs i h e = ap (λ b. b || stands_in a (drop (i + 1) xs)) e ∙ sym (at_drop_more (stands_in a) xs i d h)
 
-pub stands_on : (d : Atom) (a : Atom) (xs : List Atom) (i : ℕ) → i < length xs → false ≡ same_atom a (get_or xs i d) → stands_in a (drop (i + 1) xs) ≡ stands_in a (drop i xs)
+pub stands_on : (d : Atom) (a : Atom) (xs : List Atom) (i : ℕ) → i < length xs → false ≡ atom_eq a (get_or xs i d) → stands_in a (drop (i + 1) xs) ≡ stands_in a (drop i xs)
 unfolding stands_in
 stands_on d a xs i h e = ap (λ b. b || stands_in a (drop (i + 1) xs)) e ∙ sym (at_drop_more (stands_in a) xs i d h)
 

@@ -1,6 +1,6 @@
 -- What a rule makes of an atom, and how two atoms merge, computed by cases: this is what the relations say.
-use Rattle.std.proofs.Common.{◌≡◌, ℕ, Bool, true, false, cond, eqb, List, [], ◌∷◌, Some, None, Option, sym, refl, ap, ◌∙◌, subst, arith, eq-eqb, eqb-true}
-use Rattle.question.proofs.Equality.{class_from, link_from}
+use Rattle.std.proofs.Common.{◌≡◌, ℕ, Bool, true, false, cond, eqb, List, [], ◌∷◌, Some, None, Option, sym, refl, ap, ◌∙◌, subst, arith, eq-eqb}
+use Rattle.vocabulary.specs.Equality.{class_same, link_same}
 use Rattle.question.specs.Steps.{Made, MergesAs, made_by, unless_fails, merging_classes, merging_links, merging, merges_to}
 use Rattle.question.specs.declared.merging.Merger.{Merger}
 use Rattle.std.proofs.lemmas.Bool.{cond-true}
@@ -30,38 +30,32 @@ if_some : {A : Type 0} (b : Bool) (o : Option A) (x : A) → cond b o None ≡ S
 if_some true o x e = (refl, e)
 if_some false o x e = absurd (some_none (sym e))
 
-same_class : (c d : Class) → eqb c.0 d.0 ≡ true → c ≡ d
-same_class c d e = class_from c d (eqb-true c.0 d.0 e)
-
-same_link : (c d : Link) → eqb c.0 d.0 ≡ true → c ≡ d
-same_link c d e = link_from c d (eqb-true c.0 d.0 e)
-
 -- what `made_by` makes is what a rule makes
 pub made_sound : (rules : List Rule) (rule : Rule) (a b : Atom) → Memᴰ rule rules → made_by rule a ≡ Some b → Becomes rules a b
 made_sound rules (Within b (Named c)) (IsIn d t) x m e =
     let h = if_some (eqb c.0 d.0) (Some (about b t)) x e in
-    subst (λ (y : Atom). Becomes rules (IsIn d t) y) (some_same h.1) (subst (λ (k : Class). Becomes rules (IsIn k t) (about b t)) (same_class c d h.0) (narrower m))
+    subst (λ (y : Atom). Becomes rules (IsIn d t) y) (some_same h.1) (subst (λ (k : Class). Becomes rules (IsIn k t) (about b t)) ((class_same c d).0 h.0) (narrower m))
 made_sound rules (Within b (Named c)) (Joins l t u) x m e = absurd (some_none (sym e))
 made_sound rules (Within b (Start (Forward k))) (IsIn d t) x m e = absurd (some_none (sym e))
 made_sound rules (Within b (Start (Forward k))) (Joins l t (Variable n)) x m e = absurd (some_none (sym (if_some (eqb k.0 l.0) None x e).1))
 made_sound rules (Within b (Start (Forward k))) (Joins l t (Constant n)) x m e = absurd (some_none (sym (if_some (eqb k.0 l.0) None x e).1))
 made_sound rules (Within b (Start (Forward k))) (Joins l t Open) x m e =
     let h = if_some (eqb k.0 l.0) (Some (about b t)) x e in
-    subst (λ (y : Atom). Becomes rules (Joins l t Open) y) (some_same h.1) (subst (λ (j : Link). Becomes rules (Joins j t Open) (about b t)) (same_link k l h.0) (starts m))
+    subst (λ (y : Atom). Becomes rules (Joins l t Open) y) (some_same h.1) (subst (λ (j : Link). Becomes rules (Joins j t Open) (about b t)) ((link_same k l).0 h.0) (starts m))
 made_sound rules (Within b (Start (Backward k))) (IsIn d t) x m e = absurd (some_none (sym e))
 made_sound rules (Within b (Start (Backward k))) (Joins l (Variable n) u) x m e = absurd (some_none (sym (if_some (eqb k.0 l.0) None x e).1))
 made_sound rules (Within b (Start (Backward k))) (Joins l (Constant n) u) x m e = absurd (some_none (sym (if_some (eqb k.0 l.0) None x e).1))
 made_sound rules (Within b (Start (Backward k))) (Joins l Open u) x m e =
     let h = if_some (eqb k.0 l.0) (Some (about b u)) x e in
-    subst (λ (y : Atom). Becomes rules (Joins l Open u) y) (some_same h.1) (subst (λ (j : Link). Becomes rules (Joins j Open u) (about b u)) (same_link k l h.0) (ends m))
+    subst (λ (y : Atom). Becomes rules (Joins l Open u) y) (some_same h.1) (subst (λ (j : Link). Becomes rules (Joins j Open u) (about b u)) ((link_same k l).0 h.0) (ends m))
 made_sound rules (LinkWithin d (Forward k)) (IsIn c t) x m e = absurd (some_none (sym e))
 made_sound rules (LinkWithin d (Forward k)) (Joins l t u) x m e =
     let h = if_some (eqb k.0 l.0) (Some (joining d t u)) x e in
-    subst (λ (y : Atom). Becomes rules (Joins l t u) y) (some_same h.1) (subst (λ (j : Link). Becomes rules (Joins j t u) (joining d t u)) (same_link k l h.0) (links m))
+    subst (λ (y : Atom). Becomes rules (Joins l t u) y) (some_same h.1) (subst (λ (j : Link). Becomes rules (Joins j t u) (joining d t u)) ((link_same k l).0 h.0) (links m))
 made_sound rules (LinkWithin d (Backward k)) (IsIn c t) x m e = absurd (some_none (sym e))
 made_sound rules (LinkWithin d (Backward k)) (Joins l t u) x m e =
     let h = if_some (eqb k.0 l.0) (Some (joining d u t)) x e in
-    subst (λ (y : Atom). Becomes rules (Joins l t u) y) (some_same h.1) (subst (λ (j : Link). Becomes rules (Joins j t u) (joining d u t)) (same_link k l h.0) (turned m))
+    subst (λ (y : Atom). Becomes rules (Joins l t u) y) (some_same h.1) (subst (λ (j : Link). Becomes rules (Joins j t u) (joining d u t)) ((link_same k l).0 h.0) (turned m))
 made_sound rules (Apart b c) a x m e = absurd (some_none (sym e))
 made_sound rules (LinkApart d k) a x m e = absurd (some_none (sym e))
 made_sound rules (Single d) a x m e = absurd (some_none (sym e))
@@ -98,7 +92,7 @@ merging_sound (IsIn c t) (IsIn d u) m e =
     let h = if_some (eqb c.0 d.0) (merging_classes c t u) m e in
     let k = unless_some (unify t u) (Some (record { atom = IsIn c (filled t u); first = unify t u; second = Trivial })) m h.1 in
     subst (λ (n : Merger). Merges (IsIn c t) (IsIn d u) n.atom (merges_to n)) (some_same k.1)
-    (subst (λ (n : Class). Merges (IsIn c t) (IsIn n u) (IsIn c (filled t u)) (apply (unify t u))) (same_class c d h.0) (classes k.0))
+    (subst (λ (n : Class). Merges (IsIn c t) (IsIn n u) (IsIn c (filled t u)) (apply (unify t u))) ((class_same c d).0 h.0) (classes k.0))
 merging_sound (IsIn c t) (Joins l u v) m e = absurd (some_none (sym e))
 merging_sound (Joins l t u) (IsIn c v) m e = absurd (some_none (sym e))
 merging_sound (Joins l t u) (Joins n v w) m e =
@@ -107,7 +101,7 @@ merging_sound (Joins l t u) (Joins n v w) m e =
     let k = unless_some (unify t v) (unless_fails (unify_second t v u w) (Some o)) m h.1 in
     let j = unless_some (unify_second t v u w) (Some o) m k.1 in
     subst (λ (g : Merger). Merges (Joins l t u) (Joins n v w) g.atom (merges_to g)) (some_same j.1)
-    (subst (λ (g : Link). Merges (Joins l t u) (Joins g v w) o.atom (merges_to o)) (same_link l n h.0) (pairs k.0 j.0))
+    (subst (λ (g : Link). Merges (Joins l t u) (Joins g v w) o.atom (merges_to o)) ((link_same l n).0 h.0) (pairs k.0 j.0))
 
 pub record MergingIs (a b c : Atom) (f : Term → Term) : Type 0 where
   pub merger : Merger

@@ -1,5 +1,4 @@
 pub mod Counting
-pub mod Equality
 pub mod Exact
 pub mod Growing
 pub mod Mapping

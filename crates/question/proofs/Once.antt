@@ -1,9 +1,10 @@
 -- Each atom kept once, by a loop that puts it behind those kept.
+use Rattle.vocabulary.specs.Equality.{atom_eq}
 use Rattle.std.proofs.Common.{◌≡◌, ℕ, ◌+◌, ◌<◌, ◌≤◌, Bool, true, false, ◌||◌, List, [], ◌∷◌, ◌++◌, length, get_or, drop, sym, refl, ap, ◌∙◌, subst, append_assoc, append-nil, arith, length-append}
 use Rattle.question.specs.Parts.{added}
 use Rattle.std.proofs.lemmas.List.{at_drop_more, at_drop_all}
 use Rattle.std.proofs.lemmas.Bool.{cond_both, cond-true, cond-false}
-use Rattle.theory.specs.Tidying.{same_atom, stands_in, once_each}
+use Rattle.theory.specs.Tidying.{stands_in, once_each}
 use Rattle.vocabulary.specs.declared.questions.Atom.{Atom}
 
 -- each atom in turn put behind those kept, if it does not stand there
@@ -15,10 +16,10 @@ once_onto kept (a ∷ rest) = once_onto (added kept a) rest
 abbrev Alike : List Atom → List Atom → Type 0
 Alike kept before = (a : Atom) → stands_in a kept ≡ stands_in a before
 
-stands_push : (a b : Atom) (xs : List Atom) → stands_in a (xs ++ b ∷ []) ≡ (same_atom a b || stands_in a xs)
+stands_push : (a b : Atom) (xs : List Atom) → stands_in a (xs ++ b ∷ []) ≡ (atom_eq a b || stands_in a xs)
 unfolding stands_in
 stands_push a b [] = refl
-stands_push a b (x ∷ xs) = ap (λ (v : Bool). same_atom a x || v) (stands_push a b xs) ∙ swap (same_atom a x) (same_atom a b) (stands_in a xs)
+stands_push a b (x ∷ xs) = ap (λ (v : Bool). atom_eq a x || v) (stands_push a b xs) ∙ swap (atom_eq a x) (atom_eq a b) (stands_in a xs)
   where
     swap : (u v w : Bool) → (u || (v || w)) ≡ (v || (u || w))
     swap true true w = refl
@@ -33,7 +34,7 @@ once_onto_is kept before (a ∷ xs) same =
     cond_both (stands_in a before) (once_each before xs) (a ∷ once_each (a ∷ before) xs) (λ (ys : List Atom). once_onto (added kept a) xs ≡ kept ++ ys)
     (λ e. ap (λ (ks : List Atom). once_onto ks xs) (cond-true (stands_in a kept) kept (kept ++ a ∷ []) (same a ∙ e)) ∙ once_onto_is kept before xs same)
     (λ e. ap (λ (ks : List Atom). once_onto ks xs) (cond-false (stands_in a kept) kept (kept ++ a ∷ []) (same a ∙ e))
-    ∙ once_onto_is (kept ++ a ∷ []) (a ∷ before) xs (λ b. stands_push b a kept ∙ ap (λ (v : Bool). same_atom b a || v) (same b))
+    ∙ once_onto_is (kept ++ a ∷ []) (a ∷ before) xs (λ b. stands_push b a kept ∙ ap (λ (v : Bool). atom_eq b a || v) (same b))
     ∙ append_assoc kept (a ∷ []) (once_each (a ∷ before) xs))
 
 once_all : (xs : List Atom) → once_onto [] xs ≡ once_each [] xs

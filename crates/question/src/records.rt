@@ -3,7 +3,7 @@
 ghost use Rattle.question.specs.Parts.{of_parts};
 ghost use Rattle.question.specs.Records.{query, query_eq, query_eq_same};
 ghost use Rattle.std.specs.Prelude.{◌≡◌, Decides};
-ghost use Rattle.std.specs.Cmp as Keys;
+ghost use Rattle.std.specs.Cmp.{decided, on_per, partial_equiv_from_equiv};
 
 use crate::parts::Parts;
 use crate::record::Record;
@@ -64,7 +64,7 @@ impl Record {
 impl PartialEq for Record {
     ghost eq = { λ x y. query_eq (query x) (query y) };
 
-    ghost laws = { Keys.on_per query (Keys.partial_equiv_from_equiv (Keys.decided query_eq query_eq_same)) };
+    ghost laws = { on_per query (partial_equiv_from_equiv (decided query_eq query_eq_same)) };
 
     fn eq(&self, other: &Record) -> bool
         ensures value { result ≡ query_eq (query self.now) (query other.now) }

@@ -1,8 +1,9 @@
 -- How often a variable stands among terms and in atoms.
+use Rattle.vocabulary.specs.Equality.{term_eq}
 use Rattle.std.proofs.Common.{◌≡◌, ℕ, suc, ◌+◌, ◌≤◌, true, false, cond, eqb, ◌⊎◌, List, [], ◌∷◌, sym, refl, ap, subst, inl, inr, ⊎_elim, arith}
 use Rattle.std.proofs.lemmas.Bool.{eq-eqb, ne_eqb, cond_both, cond-true, cond-false, cases_eq}
 use Rattle.theory.specs.Rewritings.{joining}
-use Rattle.theory.specs.Tidying.{all_terms, times, same_term}
+use Rattle.theory.specs.Tidying.{all_terms, times}
 use Rattle.vocabulary.specs.declared.basic.Directed.{Directed}
 use Rattle.vocabulary.specs.declared.basic.Directed.TheVariants.{Forward, Backward}
 use Rattle.vocabulary.specs.declared.questions.Atom.{Atom}
@@ -30,7 +31,7 @@ times_more n Open ts = omega arith
 pub times_cons : (m : ℕ) (t : Term) (ts : List Term) → times m (t ∷ ts) ≡ times m (t ∷ []) + times m ts
 unfolding times
 times_cons m t ts =
-    elim (same_term (Variable m) t) as (λ b. cond b (suc (times m ts)) (times m ts) ≡ cond b 1 0 + times m ts) [ true ↦ omega arith | false ↦ omega arith ]
+    elim (term_eq (Variable m) t) as (λ b. cond b (suc (times m ts)) (times m ts) ≡ cond b 1 0 + times m ts) [ true ↦ omega arith | false ↦ omega arith ]
 
 -- a variable that stands among terms is one of them
 in_variable : (m n : ℕ) (ts : List Term) → 1 ≤ times m (Variable n ∷ ts) → (n ≡ m) ⊎ (1 ≤ times m ts)

@@ -1,17 +1,18 @@
 -- Every rewriting of a safe question is safe.
+use Rattle.vocabulary.specs.Equality.{atom_eq, atom_eq_same}
 use Rattle.std.proofs.Common.{◌≡◌, ℕ, zero, suc, Bool, true, ◌⊎◌, List, [], ◌∷◌, ◌++◌, map, length, sym, refl, ap, ◌∙◌, subst, inl, inr, ⊎_elim, arith}
 use Rattle.std.proofs.ByRecursion.{All-map, All-weaker}
 use Rattle.std.proofs.lemmas.Bool.{false≢true, or_cases, cond_both}
 use Rattle.std.specs.List.{AllByRecursion}
 use Rattle.theory.proofs.Lists.{each, every, map_in}
 use Rattle.theory.proofs.Occurrences.{times_in}
-use Rattle.theory.proofs.Terms.{same_atom_eq, all_terms_map}
+use Rattle.theory.proofs.Terms.{all_terms_map}
 use Rattle.theory.proofs.Tidying.{opened_variable, lone_not_head}
 use Rattle.theory.proofs.Unifiers.{NotOpen, Meets, proper, unify_equal, apply_variable, apply_constant, apply_filled, one_meets, first_meets, second_meets}
 use Rattle.theory.specs.Questions.{Query}
 use Rattle.theory.specs.Rewritings.{about, joining, Becomes, narrower, starts, ends, links, turned, unify, apply, filled, unify_second, Merges, classes, pairs, Replaced, here, there, Without, first, later, Merged, merged, beyond, OneStep, replaces, merges, Rewriting, itself, onward}
 use Rattle.theory.specs.Safety.{Covered, Safe}
-use Rattle.theory.specs.Tidying.{same_atom, stands_in, once_each, all_terms, lone, opened, on_terms, round, rounds, firsts, numbered, tidy}
+use Rattle.theory.specs.Tidying.{stands_in, once_each, all_terms, lone, opened, on_terms, round, rounds, firsts, numbered, tidy}
 use Rattle.vocabulary.specs.declared.basic.Basic.{Basic}
 use Rattle.vocabulary.specs.declared.basic.Basic.TheVariants.{Named, Start}
 use Rattle.vocabulary.specs.declared.basic.Directed.{Directed}
@@ -192,7 +193,7 @@ stood : {t : Term} (a : Atom) (before : List Atom) → stands_in a before ≡ tr
 unfolding stands_in
 stood a [] e m = absurd (false≢true e)
 stood {t} a (b ∷ bs) e m =
-    ⊎_elim (λ h. among_here b bs (subst (Of t) (same_atom_eq a b h) m)) (λ h. among_there b bs (stood a bs h m)) (or_cases (same_atom a b) (stands_in a bs) e)
+    ⊎_elim (λ h. among_here b bs (subst (Of t) ((atom_eq_same a b).0 h) m)) (λ h. among_there b bs (stood a bs h m)) (or_cases (atom_eq a b) (stands_in a bs) e)
 
 once_among : {t : Term} (before xs : List Atom) → Among t xs → Among t before ⊎ Among t (once_each before xs)
 unfolding once_each

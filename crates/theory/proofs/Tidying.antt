@@ -1,14 +1,15 @@
 -- Tidying a question changes no row's truth.
+use Rattle.vocabulary.specs.Equality.{atom_eq, atom_eq_same}
 use Rattle.std.proofs.Common.{◌≡◌, ℕ, zero, suc, ◌≤◌, Bool, true, false, cond, eqb, ◌⊎◌, ◌↔◌, List, [], ◌∷◌, ◌++◌, map, length, sym, refl, ap, ◌∙◌, subst, inl, inr, ⊎_elim, arith}
 use Rattle.std.proofs.ByRecursion.{All-map, All-weaker}
 use Rattle.std.proofs.lemmas.Bool.{false≢true, true≢false, eqb-true, eq-eqb, ne_eqb, and_parts, or_cases, cond_both, cond-true, cond-false, cases_Bool}
 use Rattle.std.specs.List.{AllByRecursion}
 use Rattle.theory.proofs.Lists.{all_unmap, matched_map, matched_unmap}
 use Rattle.theory.proofs.Occurrences.{times_here, times_more}
-use Rattle.theory.proofs.Terms.{same_atom_eq, Respects, Reflects, holds_map, holds_unmap, all_terms_map}
+use Rattle.theory.proofs.Terms.{Respects, Reflects, holds_map, holds_unmap, all_terms_map}
 use Rattle.theory.specs.Lists.{Matched}
 use Rattle.theory.specs.Questions.{Query, Serves, Holds, True}
-use Rattle.theory.specs.Tidying.{same_atom, stands_in, once_each, all_terms, times, lone, opened, on_terms, round, rounds, firsts, place, numbered, tidy}
+use Rattle.theory.specs.Tidying.{stands_in, once_each, all_terms, times, lone, opened, on_terms, round, rounds, firsts, place, numbered, tidy}
 use Rattle.theory.specs.Worlds.{Shape}
 use Rattle.vocabulary.specs.declared.numbers.Name.{Name}
 use Rattle.vocabulary.specs.declared.questions.Atom.{Atom}
@@ -42,10 +43,10 @@ numbered_reflects names v order Open x h = h
 stands_holds : (P : Atom → Type 0) (a : Atom) (before : List Atom) → stands_in a before ≡ true → AllByRecursion P before → P a
 unfolding stands_in
 stands_holds P a [] e h = absurd (false≢true e)
-stands_holds P a (b ∷ bs) e h = pick (λ p. stands_holds P a bs p h.1) (or_cases (same_atom a b) (stands_in a bs) e)
+stands_holds P a (b ∷ bs) e h = pick (λ p. stands_holds P a bs p h.1) (or_cases (atom_eq a b) (stands_in a bs) e)
   where
-    pick : (stands_in a bs ≡ true → P a) → (same_atom a b ≡ true) ⊎ (stands_in a bs ≡ true) → P a
-    pick rec (inl p) = subst P (sym (same_atom_eq a b p)) h.0
+    pick : (stands_in a bs ≡ true → P a) → (atom_eq a b ≡ true) ⊎ (stands_in a bs ≡ true) → P a
+    pick rec (inl p) = subst P (sym ((atom_eq_same a b).0 p)) h.0
     pick rec (inr p) = rec p
 
 all_from_once : (P : Atom → Type 0) (before xs : List Atom) → AllByRecursion P before → AllByRecursion P (once_each before xs) → AllByRecursion P xs

@@ -1,34 +1,16 @@
 -- Tidying a question: repeated atoms go, variables that stand once and outside the head become open, the others are numbered anew.
-use Rattle.std.specs.Prelude.{ℕ, zero, suc, Bool, true, false, cond, ◌&&◌, ◌||◌, List, [], ◌∷◌, ◌++◌, map, length, ◌==◌}
+use Rattle.vocabulary.specs.Equality.{atom_eq, term_eq}
+use Rattle.std.specs.Prelude.{ℕ, zero, suc, Bool, false, cond, ◌&&◌, ◌||◌, List, [], ◌∷◌, ◌++◌, map, length, ◌==◌}
 use Rattle.theory.specs.Questions.{Query}
 use Rattle.vocabulary.specs.declared.questions.Atom.{Atom}
 use Rattle.vocabulary.specs.declared.questions.Atom.TheVariants.{IsIn, Joins}
 use Rattle.vocabulary.specs.declared.questions.Term.{Term}
 use Rattle.vocabulary.specs.declared.questions.Term.TheVariants.{Variable, Constant, Open}
 
--- equal terms; the open term equals itself
-abbrev pub same_term : Term → Term → Bool
-same_term (Variable m) (Variable n) = m == n
-same_term (Variable m) (Constant b) = false
-same_term (Variable m) Open = false
-same_term (Constant a) (Variable n) = false
-same_term (Constant a) (Constant b) = a.0 == b.0
-same_term (Constant a) Open = false
-same_term Open (Variable n) = false
-same_term Open (Constant b) = false
-same_term Open Open = true
-
--- equal atoms
-abbrev pub same_atom : Atom → Atom → Bool
-same_atom (IsIn c t) (IsIn d u) = c.0 == d.0 && same_term t u
-same_atom (IsIn c t) (Joins l u v) = false
-same_atom (Joins l t u) (IsIn c v) = false
-same_atom (Joins l t u) (Joins m v w) = l.0 == m.0 && (same_term t v && same_term u w)
-
 -- an equal atom is in the list
 unfoldable pub stands_in : Atom → List Atom → Bool
 stands_in a [] = false
-stands_in a (b ∷ bs) = same_atom a b || stands_in a bs
+stands_in a (b ∷ bs) = atom_eq a b || stands_in a bs
 
 -- atoms without those that equal an earlier one, or one of those before
 unfoldable pub once_each : List Atom → List Atom → List Atom
@@ -44,7 +26,7 @@ all_terms (Joins l t u ∷ rest) = t ∷ (u ∷ all_terms rest)
 -- how often a variable stands among terms
 unfoldable pub times : ℕ → List Term → ℕ
 times n [] = 0
-times n (t ∷ ts) = cond (same_term (Variable n) t) (suc (times n ts)) (times n ts)
+times n (t ∷ ts) = cond (term_eq (Variable n) t) (suc (times n ts)) (times n ts)
 
 -- the variable is not in the head and stands once in the body
 abbrev pub lone : List Term → List Term → ℕ → Bool

@@ -2,7 +2,7 @@
 
 ghost use Rattle.std.specs.Prelude.{◌≡◌, Decides};
 ghost use Rattle.vocabulary.specs.Ranges.{FactFits};
-ghost use Rattle.std.specs.Cmp as Keys;
+ghost use Rattle.std.specs.Cmp.{decided, partial_equiv_from_equiv};
 ghost use Rattle.vocabulary.specs.Equality.{fact_eq};
 ghost use Rattle.vocabulary.specs.Equality.{fact_eq_same};
 
@@ -31,7 +31,7 @@ impl Fact {
 impl PartialEq for Fact {
     ghost eq = { fact_eq };
 
-    ghost laws = { Keys.partial_equiv_from_equiv (Keys.decided fact_eq fact_eq_same) };
+    ghost laws = { partial_equiv_from_equiv (decided fact_eq fact_eq_same) };
 
     fn eq(&self, other: &Fact) -> bool
         ensures value { result ≡ fact_eq self.now other.now }

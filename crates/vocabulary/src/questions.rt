@@ -1,7 +1,7 @@
 //! Terms and atoms of questions, and what makes two terms equal.
 
 ghost use Rattle.std.specs.Prelude.{◌≡◌, Decides};
-ghost use Rattle.std.specs.Cmp as Keys;
+ghost use Rattle.std.specs.Cmp.{decided, partial_equiv_from_equiv};
 ghost use Rattle.vocabulary.specs.Equality.{term_eq, atom_eq};
 ghost use Rattle.vocabulary.specs.Equality.{term_eq_same, atom_eq_same};
 
@@ -18,7 +18,7 @@ pub enum Term {
 impl PartialEq for Term {
     ghost eq = { term_eq };
 
-    ghost laws = { Keys.partial_equiv_from_equiv (Keys.decided term_eq term_eq_same) };
+    ghost laws = { partial_equiv_from_equiv (decided term_eq term_eq_same) };
 
     fn eq(&self, other: &Term) -> bool
         ensures value { result ≡ term_eq self.now other.now }
@@ -43,7 +43,7 @@ pub enum Atom {
 impl PartialEq for Atom {
     ghost eq = { atom_eq };
 
-    ghost laws = { Keys.partial_equiv_from_equiv (Keys.decided atom_eq atom_eq_same) };
+    ghost laws = { partial_equiv_from_equiv (decided atom_eq atom_eq_same) };
 
     fn eq(&self, other: &Atom) -> bool
         ensures value { result ≡ atom_eq self.now other.now }

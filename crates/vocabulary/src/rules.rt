@@ -4,7 +4,7 @@ ghost use Rattle.std.specs.Prelude.{◌≡◌, Decides};
 ghost use Rattle.vocabulary.specs.Families.{LinksToo, Takes, family_code};
 ghost use Rattle.vocabulary.specs.Ranges.{RuleFits};
 ghost use Rattle.vocabulary.specs.Refusals.{FamilyOf};
-ghost use Rattle.std.specs.Cmp as Keys;
+ghost use Rattle.std.specs.Cmp.{decided, partial_equiv_from_equiv};
 ghost use Rattle.vocabulary.specs.Equality.{rule_eq};
 ghost use Rattle.vocabulary.specs.Equality.{rule_eq_same};
 
@@ -45,7 +45,7 @@ impl Rule {
 impl PartialEq for Rule {
     ghost eq = { rule_eq };
 
-    ghost laws = { Keys.partial_equiv_from_equiv (Keys.decided rule_eq rule_eq_same) };
+    ghost laws = { partial_equiv_from_equiv (decided rule_eq rule_eq_same) };
 
     fn eq(&self, other: &Rule) -> bool
         ensures value { result ≡ rule_eq self.now other.now }

@@ -1,4 +1,4 @@
-use Rattle.question.proofs.Equality.{same_term_decides}
+use Rattle.vocabulary.specs.Equality.{term_eq_same}
 use Rattle.question.proofs.counts.once.Goals as goal
 use Rattle.std.proofs.lemmas.Bool.Decides.{same_from_decides}
 use Rattle.theory.specs.Tidying.{times}
@@ -8,9 +8,9 @@ use Rattle.std.proofs.Common.{Bool, true, false, cond, ap, arith}
 pub returns-then-eq : goal.returns-then-eq
 unfolding times
 returns-then-eq c =
-    (ap (λ (b : Bool). cond b 1 0) (same_from_decides true _ c.if-eq.ensures.same (same_term_decides (Variable c.args.n) c.args.t)), omega arith)
+    (ap (λ (b : Bool). cond b 1 0) (same_from_decides true _ c.if-eq.ensures.same (term_eq_same (Variable c.args.n) c.args.t)), omega arith)
 
 pub returns-else-eq : goal.returns-else-eq
 unfolding times
 returns-else-eq c =
-    (ap (λ (b : Bool). cond b 1 0) (same_from_decides false _ c.if-eq.ensures.same (same_term_decides (Variable c.args.n) c.args.t)), omega arith)
+    (ap (λ (b : Bool). cond b 1 0) (same_from_decides false _ c.if-eq.ensures.same (term_eq_same (Variable c.args.n) c.args.t)), omega arith)
