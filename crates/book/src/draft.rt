@@ -8,9 +8,8 @@ ghost use Rattle.std.specs.List.{AllByRecursion};
 ghost use Rattle.std.specs.Prelude.{◌≡◌, [], length};
 
 use crate::book::Book;
-use crate::closure::close;
+use crate::closure::Closure;
 use crate::pass::Pass;
-use bits::relation::Relation;
 use distinct::Distinct;
 use vocabulary::effects::Effect;
 use vocabulary::faults::Fault;
@@ -85,14 +84,12 @@ impl<'a> Draft<'a> {
             linked,
         } = self;
         let rules = rules.into_items();
-        let mut basic = Relation::none(basic, 2);
-        let mut linked = Relation::none(linked, 1);
-        close(family, rules, &mut basic, &mut linked);
+        let (basic, linked) = Closure::of(family, rules, basic, linked).into_words();
         Book {
             family,
             rules,
-            basic: basic.into_words(),
-            linked: linked.into_words(),
+            basic,
+            linked,
         }
     }
 }
