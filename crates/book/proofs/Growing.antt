@@ -51,8 +51,10 @@ classes_go : {D : ℕ → ℕ → Type 0} {A : List ℕ → Type 0} {r : Bool} {
     (b c : Basic) → PairOn BasicFits basic_code 2 t b c → Excluded family rules (classes b c)) →
     (A t → C t) → (other : List ℕ) → Went G (λ words. C words.0) r (s, other) (t, other)
 classes_go G C g sound done other = record {
-  more = elim [ classes b c ↦ pair_kept g b c | links d e ↦ λ o. o ];
-  sound = λ x h old. elim [ classes b c ↦ sound x.0 x.1 h (λ v w. old (classes v w)) b c | links d e ↦ old (links d e) ];
+  extends = record {
+    more = elim [ classes b c ↦ pair_kept g b c | links d e ↦ λ o. o ];
+    sound = λ x h old. elim [ classes b c ↦ sound x.0 x.1 h (λ v w. old (classes v w)) b c | links d e ↦ old (links d e) ];
+  };
   at_most = omega (arith, g.at_most);
   added = λ e. omega (arith, g.added e);
   idle = λ e. let i = g.idle e in (ap (λ (words : List ℕ). (words, other)) i.0, done i.1);
@@ -64,8 +66,10 @@ links_go : {D : ℕ → ℕ → Type 0} {A : List ℕ → Type 0} {r : Bool} {s 
     (d e : Directed) → PairOn DirectedFits directed_code 1 t d e → Excluded family rules (links d e)) →
     (A t → C t) → (other : List ℕ) → Went G (λ words. C words.1) r (other, s) (other, t)
 links_go G C g sound done other = record {
-  more = elim [ classes b c ↦ λ o. o | links d e ↦ pair_kept g d e ];
-  sound = λ x h old. elim [ classes b c ↦ old (classes b c) | links d e ↦ sound x.0 x.1 h (λ v w. old (links v w)) d e ];
+  extends = record {
+    more = elim [ classes b c ↦ λ o. o | links d e ↦ pair_kept g d e ];
+    sound = λ x h old. elim [ classes b c ↦ old (classes b c) | links d e ↦ sound x.0 x.1 h (λ v w. old (links v w)) d e ];
+  };
   at_most = omega (arith, g.at_most);
   added = λ e. omega (arith, g.added e);
   idle = λ e. let i = g.idle e in (ap (λ (words : List ℕ). (other, words)) i.0, done i.1);

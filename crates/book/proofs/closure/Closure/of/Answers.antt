@@ -8,11 +8,11 @@ pub loop-family-init : goal.loop-family-init
 loop-family-init c = elim [ classes a b ↦ λ o. absurd (c.none.ensures _ _ o.on) | links d e ↦ λ o. absurd (c.none-2.ensures _ _ o.on) ]
 
 pub loop-family-preserved : goal.loop-family-preserved
-loop-family-preserved c = c.round.ensures.sound (c.args.family, c.args.rules.now) (refl, refl) c.loop-family.invariant
+loop-family-preserved c = c.round.ensures.extends.sound (c.args.family, c.args.rules.now) (refl, refl) c.loop-family.invariant
 
 pub returns : goal.returns
 returns c =
     let after = c.round.new.self in
     holds_closure c.args.family c.args.rules.now (tables after) after.classes.relation.symmetric after.links.relation.symmetric
     (c.round.ensures.idle c.loop-family-test.false).1
-    (c.round.ensures.sound (c.args.family, c.args.rules.now) (refl, refl) c.loop-family.invariant)
+    (c.round.ensures.extends.sound (c.args.family, c.args.rules.now) (refl, refl) c.loop-family.invariant)

@@ -1,5 +1,5 @@
 use Rattle.book.proofs.Spreading.{led_turned}
-use Rattle.book.proofs.reach.lead_link.Goals as goal
+use Rattle.book.proofs.reach.Marks.lead_link.Goals as goal
 
 pub returns : goal.returns
 returns c =
