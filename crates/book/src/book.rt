@@ -1,8 +1,9 @@
 //! A sealed book: its rules and their exclusion closure.
 
 ghost use Rattle.book.specs.Answers.{Answered};
-ghost use Rattle.book.specs.Entries.{Admitted, Different};
+ghost use Rattle.book.specs.Entries.{Admitted};
 ghost use Rattle.book.specs.Tables.{HoldsClosure, PairOn};
+ghost use Rattle.distinct.specs.Repeats.{Different};
 ghost use Rattle.std.specs.Prelude.{◌≡◌, length, Decides};
 ghost use Rattle.theory.specs.Closure.{Excluded, classes, links};
 ghost use Rattle.theory.specs.Following.{Empty, Implied};

@@ -1,9 +1,10 @@
 //! A draft of a book, which takes rules until it is sealed.
 
-ghost use Rattle.book.specs.Entries.{Admitted, Different, Entered, left_free};
+ghost use Rattle.book.specs.Entries.{Admitted, Entered, left_free};
 ghost use Rattle.book.specs.Passes.{Sized};
 ghost use Rattle.book.specs.Tables.{HoldsClosure};
 ghost use Rattle.distinct.specs.Items.{items, spare};
+ghost use Rattle.distinct.specs.Repeats.{Different};
 ghost use Rattle.std.specs.List.{AllByRecursion};
 ghost use Rattle.std.specs.Prelude.{◌≡◌, [], length};
 

@@ -2,10 +2,6 @@ use Rattle.book.proofs.Closing.{holds_closure}
 use Rattle.book.proofs.closure.Closure.of.Goals as goal
 use Rattle.book.specs.Growth.{tables}
 use Rattle.std.proofs.Common.{refl}
-use Rattle.theory.specs.Closure.{classes, links}
-
-pub loop-family-init : goal.loop-family-init
-loop-family-init c = elim [ classes a b ↦ λ o. absurd (c.none.ensures _ _ o.on) | links d e ↦ λ o. absurd (c.none-2.ensures _ _ o.on) ]
 
 pub loop-family-preserved : goal.loop-family-preserved
 loop-family-preserved c = c.round.ensures.extends.sound (c.args.family, c.args.rules.now) (refl, refl) c.loop-family.invariant

@@ -1,7 +1,8 @@
 use Rattle.std.proofs.Common.{◌≡◌, ℕ, List, length, sym, refl, ap, ◌∙◌, subst}
 use Rattle.book.proofs.Listing.{all_fit}
 use Rattle.book.proofs.draft.Draft.seal.Goals as goal
-use Rattle.book.specs.Entries.{Admitted, Different}
+use Rattle.book.specs.Entries.{Admitted}
+use Rattle.distinct.specs.Repeats.{Different}
 use Rattle.book.specs.Growth.{AllFit}
 use Rattle.book.specs.Tables.{HoldsClosure}
 use Rattle.distinct.specs.Items.{items}

@@ -5,6 +5,3 @@ use Rattle.theory.specs.Reaching.{by_rule}
 
 pub returns-in-Within : goal.returns-in-Within
 returns-in-Within c = rw c.in-Within.is (adds_like (λ x m. class_step (by_rule m)) (λ i. i) c.lead.ensures)
-
-pub returns-in-LinkWithin : goal.returns-in-LinkWithin
-returns-in-LinkWithin c = rw c.in-LinkWithin.is c.lead_link.ensures
