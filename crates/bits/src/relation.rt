@@ -1,7 +1,7 @@
 //! A symmetric relation on the numbers below 64 * STRIDE, in a lent table with STRIDE words to a row.
 
 ghost use Rattle.std.specs.Prelude.{◌≡◌, ℕ, ◌+◌, ◌*◌, ◌<◌, true, length, Decides};
-ghost use Rattle.bits.specs.Relations.{Covers, Grows, Inherited, Joined, On, Placed, Symmetric};
+ghost use Rattle.bits.specs.Relations.{Covers, Grows, Inherited, Inherits, Joins, On, Placed, Symmetric};
 ghost use Rattle.bits.specs.Words.{word};
 
 use crate::table::{Bits, get};
@@ -61,7 +61,7 @@ impl<'a, const STRIDE: u8> Relation<'a, STRIDE> {
 
     /// Relates a and b, and says whether that is new; where one is out of range it changes nothing.
     pub fn add(&mut self, a: usize, b: usize) -> bool
-        ensures { Grows STRIDE (Joined a b (On STRIDE self.old.bits.words.now)) (λ v. a < 64 * STRIDE → b < 64 * STRIDE → On STRIDE v a b) result self.old.bits.words.now self.new.bits.words.now }
+        ensures { Joins STRIDE a b result self.old.bits.words.now self.new.bits.words.now }
     {
         if self.has(a, b) {
             return false;
@@ -112,7 +112,7 @@ impl<'a, const STRIDE: u8> Relation<'a, STRIDE> {
 
     /// Relates `from` to what `to` is related to, and says whether any of that is new.
     pub fn inherit(&mut self, from: usize, to: usize) -> bool
-        ensures { Grows STRIDE (Inherited from to (On STRIDE self.old.bits.words.now)) (λ v. from < 64 * STRIDE → Covers STRIDE v from to (64 * STRIDE)) result self.old.bits.words.now self.new.bits.words.now }
+        ensures { Inherits STRIDE from to result self.old.bits.words.now self.new.bits.words.now }
     {
         if self.covers(from, to) {
             return false;

@@ -1,16 +1,16 @@
 //! A draft of a book, which takes rules until it is sealed.
 
-ghost use Rattle.book.specs.Entries.{Admitted, Different, Entered, left_free};
+ghost use Rattle.book.specs.Entries.{Admitted, Entered, left_free};
 ghost use Rattle.book.specs.Passes.{Sized};
 ghost use Rattle.book.specs.Tables.{HoldsClosure};
 ghost use Rattle.distinct.specs.Items.{items, spare};
+ghost use Rattle.distinct.specs.Repeats.{Different};
 ghost use Rattle.std.specs.List.{AllByRecursion};
 ghost use Rattle.std.specs.Prelude.{◌≡◌, [], length};
 
 use crate::book::Book;
-use crate::closure::close;
+use crate::closure::Closure;
 use crate::pass::Pass;
-use bits::relation::Relation;
 use distinct::Distinct;
 use vocabulary::effects::Effect;
 use vocabulary::faults::Fault;
@@ -85,14 +85,12 @@ impl<'a> Draft<'a> {
             linked,
         } = self;
         let rules = rules.into_items();
-        let mut basic = Relation::none(basic, 2);
-        let mut linked = Relation::none(linked, 1);
-        close(family, rules, &mut basic, &mut linked);
+        let (basic, linked) = Closure::of(family, rules, basic, linked).into_words();
         Book {
             family,
             rules,
-            basic: basic.into_words(),
-            linked: linked.into_words(),
+            basic,
+            linked,
         }
     }
 }
