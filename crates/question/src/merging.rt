@@ -7,7 +7,6 @@ ghost use Rattle.question.specs.Steps.{MergesAt, MergesAs, merges_to, merging, m
 ghost use Rattle.theory.specs.Rewritings.{apply, filled, unify};
 ghost use Rattle.vocabulary.specs.declared.questions.Atom.{Atom};
 
-use crate::changes::{Change, on_parts};
 use crate::parts::Parts;
 use vocabulary::numbers::{Class, Link};
 use vocabulary::questions::{Atom, Term, Unifier};
@@ -20,10 +19,11 @@ pub(crate) struct Merger {
     second: Unifier,
 }
 
-impl Change for Merger {
-    ghost change = { λ m. merges_to m };
-
-    fn on(&self, t: Term) -> Term {
+impl Merger {
+    /// What becomes of a term.
+    fn given(&self, t: Term) -> Term
+        ensures { result ≡ merges_to self.now t }
+    {
         given(self.second, given(self.first, t))
     }
 }
@@ -142,6 +142,6 @@ impl Parts {
             head: self.head,
             atoms: self.atoms.with_at(i, merger.atom).without(j),
         };
-        Some(on_parts(&merger, &left))
+        Some(left.map(|t| merger.given(t)))
     }
 }
