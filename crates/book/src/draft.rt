@@ -11,7 +11,7 @@ use crate::book::Book;
 use crate::closure::close;
 use crate::pass::Pass;
 use bits::relation::Relation;
-use distinct::{Distinct, Put};
+use distinct::Distinct;
 use vocabulary::effects::Effect;
 use vocabulary::faults::Fault;
 use vocabulary::rules::{Family, Rule};
@@ -64,11 +64,12 @@ impl<'a> Draft<'a> {
         if !self.family.takes(rule) {
             return Err(Fault::Form);
         }
-        match self.rules.put(rule) {
-            Put::Added => Ok(Effect::Changed),
-            Put::Stands => Ok(Effect::Unchanged),
-            Put::Full => Err(Fault::BookFull),
-        }
+        let new = self.rules.put(rule).map_err(|_| Fault::BookFull)?;
+        Ok(if new {
+            Effect::Changed
+        } else {
+            Effect::Unchanged
+        })
     }
 
     /// The sealed book: the draft is used up, and its rules stay as they are.

@@ -1,13 +1,12 @@
 -- Tables grow by sets of questions, one set after another.
-use Rattle.std.proofs.Common.{◌≡◌, ℕ, ◌+◌, ◌<◌, ◌⊎◌, Bool, Decides, List, [], ◌∷◌, ◌++◌, map, length, drop, Some, None, Ok, Err, Result, sym, refl, ap, ◌∙◌, subst, inl, inr, ⊎_elim, append_assoc, append-nil, arith, length-append, below_more}
+use Rattle.std.proofs.Common.{◌≡◌, ℕ, ◌+◌, ◌<◌, ◌⊎◌, Bool, true, false, Decides, List, [], ◌∷◌, ◌++◌, map, length, drop, Some, None, Ok, Err, Result, sym, refl, ap, ◌∙◌, subst, inl, inr, ⊎_elim, append_assoc, append-nil, arith, length-append, below_more}
 use Rattle.distinct.proofs.Members.{member_at, place_of}
 use Rattle.distinct.specs.Items.{items, spare}
 use Rattle.distinct.specs.Puts.{Outcome}
 use Rattle.distinct.specs.Repeats.{Absent, Answers, NoRepeats, Present}
 use Rattle.distinct.specs.declared.Distinct.{Distinct}
 use Rattle.distinct.proofs.Decided.{no_repeats_like, outcome_like}
-use Rattle.distinct.specs.declared.Put.{Put}
-use Rattle.distinct.specs.declared.Put.TheVariants.{Added, Full, Stands}
+use Rattle.distinct.specs.declared.Full.{Full}
 use Rattle.question.proofs.Exact.{some_none, some_same}
 use Rattle.question.specs.Growth.{Below, ByMerge, ByRule, Filled, Grown, Overfull, Same, Taken, atom_at, rows}
 use Rattle.question.specs.Records.{query, query_eq, query_eq_same}
@@ -38,8 +37,8 @@ answers_same x y r h = subst (λ (b : Bool). Decides b (query x ≡ query y)) (s
 same_answers : (x y : Record) (r : Bool) → Same x y r → Answers record_eq x y r
 same_answers x y r h = same_from_decides r (record_eq x y) h (query_eq_same (query x) (query y))
 
-pub put_same : (s t : Distinct Record) (x : Record) (r : Put) → Outcome (Answers record_eq) s x t r → Outcome Same s x t r
-put_same = outcome_like answers_same
+pub put_same : (s t : Distinct Record) (x : Record) {r told : Result Bool Full} → r ≡ told → Outcome (Answers record_eq) s x t r → Outcome Same s x t told
+put_same s t x e o = subst (Outcome Same s x t) e (outcome_like answers_same s t x _ o)
 
 pub kept_same : (xs ys : List Record) → (NoRepeats (Answers record_eq) xs → NoRepeats (Answers record_eq) ys) → NoRepeats Same xs → NoRepeats Same ys
 kept_same xs ys keeps h = no_repeats_like answers_same ys (keeps (no_repeats_like same_answers xs h))
@@ -66,9 +65,9 @@ grown_none S s t e f n = record {
 }
 
 -- one question is put in: it is new, it stands already, or there is no place for it
-pub taken_added : (s t : Distinct Record) (r : Record) (q : Query) → query r ≡ q → Outcome Same s r t Added → (NoRepeats Same (items s) → NoRepeats Same (items t)) →
+pub taken_put : (s t : Distinct Record) (r : Record) (q : Query) → query r ≡ q → (new : Bool) → Outcome Same s r t (Ok new) → (NoRepeats Same (items s) → NoRepeats Same (items t)) →
     length t.places.now ≡ length s.places.now → Filled (λ x. x ≡ q) s t
-taken_added s t r q e o d n =
+taken_put s t r q e true o d n =
     let more : rows t ≡ rows s ++ query r ∷ [] = ap (map query) o.2 ∙ map_push query (items s) r in
     record {
       grown = record {
@@ -81,15 +80,13 @@ taken_added s t r q e o d n =
       };
       has = λ x p. subst (λ (ys : List Query). Memᴰ x ys) (sym more) (Memᴰ.append_right (rows s) (Memᴰ.head (p ∙ sym e)));
     }
-
-pub taken_stands : (s t : Distinct Record) (r : Record) (q : Query) → query r ≡ q → Outcome Same s r t Stands → length t.places.now ≡ length s.places.now → Filled (λ x. x ≡ q) s t
-taken_stands s t r q e o n = record {
+taken_put s t r q e false o d n = record {
   grown = grown_none (λ x. x ≡ q) s t o.1 o.2 n;
   has = λ x p. Memᴰ.cast (p ∙ sym e) (subst (λ (rs : List Record). Memᴰ (query r) (map query rs)) (sym o.1) (present_row (items s) r o.0));
 }
 
-pub taken_full : (s t : Distinct Record) (r : Record) (q : Query) → query r ≡ q → Outcome Same s r t Full → length t.places.now ≡ length s.places.now → Overfull (λ x. x ≡ q) s t
-taken_full s t r q e o n = record {
+pub taken_full : (s t : Distinct Record) (r : Record) (q : Query) → query r ≡ q → {full : Full} → Outcome Same s r t (Err full) → length t.places.now ≡ length s.places.now → Overfull (λ x. x ≡ q) s t
+taken_full s t r q e {full} o n = record {
   grown = grown_none (λ x. x ≡ q) s t o.2 o.3 n;
   full = o.3 ∙ o.1;
   another = query r;

@@ -9,7 +9,7 @@ ghost use Rattle.theory.specs.Tidying.{tidy};
 use crate::parts::Parts;
 use crate::record::Record;
 use crate::ruling::becomes;
-use distinct::{Distinct, Put};
+use distinct::Distinct;
 use vocabulary::faults::Fault;
 use vocabulary::rules::Rule;
 
@@ -18,11 +18,10 @@ pub(crate) fn put(table: &mut Distinct<Record>, question: Parts) -> Result<(), F
     ensures taken { Taken (λ x. x ≡ tidy (of_parts question)) table.old table.new result }
     ensures lent { table.new.places.ghost_name ≡ table.old.places.ghost_name }
 {
-    match table.put(Record::of(question.tidied())) {
-        Put::Added => Ok(()),
-        Put::Stands => Ok(()),
-        Put::Full => Err(Fault::Rewritings),
-    }
+    table
+        .put(Record::of(question.tidied()))
+        .map_err(|_| Fault::Rewritings)?;
+    Ok(())
 }
 
 /// Puts in what one rule makes of the atom at `i`.
