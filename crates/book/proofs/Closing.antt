@@ -6,7 +6,8 @@ use Rattle.distinct.proofs.Members.{place_of}
 use Rattle.book.specs.Growth.{AllDone, ClassOn, Done, EmptyKnown, LinkOn, Sound}
 use Rattle.book.specs.Tables.{HoldsClosure}
 use Rattle.theory.specs.Closure.{Exclusion, Excluded, apart, classes, empty_link, link_apart, link_empty, link_narrow, link_swap, link_turn, links, narrow, narrow_end, narrow_start, other_end, swap}
-use Rattle.vocabulary.proofs.Codes.{basic_below, directed_below, turn_fits, turn_turn}
+use Rattle.vocabulary.specs.Codes.{basic_below, directed_below}
+use Rattle.vocabulary.proofs.Codes.{turn_fits, turn_turn}
 use Rattle.vocabulary.specs.Codes.{basic_code, directed_code, turn}
 use Rattle.vocabulary.specs.Ranges.{DirectedFits}
 use Rattle.vocabulary.specs.declared.basic.Basic.{Basic}

@@ -4,7 +4,8 @@ use Rattle.bits.specs.Relations.{Covers, Grows, Inherited, Joined, On, base, fli
 use Rattle.book.specs.Growth.{ClassOn, ClassStep, ClassesPass, LinkOn, LinkStep, LinksPass, Sound, Went}
 use Rattle.std.proofs.lemmas.Bool.{false≢true, or_cases, or_parts}
 use Rattle.theory.specs.Closure.{Excluded, classes, link_swap, links, swap}
-use Rattle.vocabulary.proofs.Codes.{basic_below, basic_same, directed_below, directed_same}
+use Rattle.vocabulary.specs.Codes.{basic_below, directed_below}
+use Rattle.vocabulary.proofs.Codes.{basic_same, directed_same}
 use Rattle.vocabulary.specs.Codes.{basic_code, directed_code}
 use Rattle.vocabulary.specs.Ranges.{BasicFits, DirectedFits}
 use Rattle.vocabulary.specs.declared.basic.Basic.{Basic}

@@ -10,7 +10,8 @@ use Rattle.std.proofs.lemmas.List.{get_or_default}
 use Rattle.std.proofs.lemmas.Bool.{cases_eq, false≢true, true≢false, or_cases, or_parts}
 use Rattle.theory.proofs.Reached.{beyond, once, turned_step}
 use Rattle.theory.specs.Reaching.{LinkStep, Reaches, Step, along, back, by_link, by_rule, here, then}
-use Rattle.vocabulary.proofs.Codes.{basic_below, basic_same, directed_below, directed_same, turn_turn}
+use Rattle.vocabulary.specs.Codes.{basic_below, directed_below}
+use Rattle.vocabulary.proofs.Codes.{basic_same, directed_same, turn_turn}
 use Rattle.vocabulary.specs.Codes.{turn}
 use Rattle.vocabulary.specs.declared.basic.Basic.{Basic}
 use Rattle.vocabulary.specs.declared.basic.Basic.TheVariants.{Start}

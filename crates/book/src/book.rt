@@ -11,7 +11,7 @@ ghost use Rattle.vocabulary.specs.Ranges.{RuleFits};
 
 use crate::reach::{Node, reaches};
 use bits::relation::related;
-use vocabulary::basic::{Basic, Directed};
+use vocabulary::basic::{Basic, Coded, Directed};
 use vocabulary::faults::Fault;
 use vocabulary::rules::{Family, Rule};
 

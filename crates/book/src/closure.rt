@@ -8,7 +8,7 @@ ghost use Rattle.vocabulary.specs.Ranges.{BasicFits, DirectedFits, RuleFits};
 ghost use mathlib.Core.List.{Memᴰ};
 
 use bits::relation::Relation;
-use vocabulary::basic::{Basic, Directed};
+use vocabulary::basic::{Basic, Coded, Directed};
 use vocabulary::numbers::Link;
 use vocabulary::rules::{Family, Rule};
 

@@ -17,7 +17,7 @@ impl Pass {
     pub fn test(code: u8, rules: &[Rule], basic: &[u64], linked: &[u64]) -> Result<Pass, Fault>
         ensures { Tested code (length rules.now) (length basic.now) (length linked.now) result }
     {
-        let family = Family::from_code(code)?;
+        let family = Family::try_from(code)?;
         if rules.len() != 256 || basic.len() != 256 || linked.len() != 64 {
             return Err(Fault::Length);
         }

@@ -8,7 +8,7 @@ ghost use Rattle.vocabulary.specs.Ranges.{DirectedFits, RuleFits};
 ghost use mathlib.Core.List.{Memᴰ};
 
 use bits::table::{Bits, get};
-use vocabulary::basic::{Basic, Directed};
+use vocabulary::basic::{Basic, Coded, Directed};
 use vocabulary::rules::Rule;
 
 /// What a within rule leads on from: a basic class, or a directed link.

@@ -48,7 +48,7 @@ fn answer(rt: &HostRuntime, book: &Book, question: Question, places: usize) -> a
     let record = match question.test() {
         Ok(record) => record,
         Err(fault) => {
-            let n = fault.number();
+            let n = u8::from(fault);
             println!(rt; "fault {n}")?;
             return Ok(());
         }
@@ -60,7 +60,7 @@ fn answer(rt: &HostRuntime, book: &Book, question: Question, places: usize) -> a
             print_sorted(rt, &table, count)
         }
         Err(fault) => {
-            let n = fault.number();
+            let n = u8::from(fault);
             println!(rt; "fault {n} with {places} places")?;
             print_sorted(rt, &table, places)
         }

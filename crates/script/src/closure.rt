@@ -6,7 +6,7 @@ ghost use Rattle.script.specs.Forms.{Least, NotAfter};
 use crate::report::{Line, Report};
 use book::book::Book;
 use std::alloc::AllocError;
-use vocabulary::basic::{Basic, Directed};
+use vocabulary::basic::{Basic, Coded, Directed};
 
 /// Answers the call that sealed a book: the pairs of basic classes, and then those of links.
 pub(crate) fn answer(line: Line, book: Book, report: &mut Report) -> Result<(), AllocError> {
@@ -20,7 +20,7 @@ pub(crate) fn answer(line: Line, book: Book, report: &mut Report) -> Result<(), 
 fn classes(book: &Book, out: &mut String) -> Result<(), AllocError> {
     for a in 0..128u8 {
         for b in a..128u8 {
-            if let (Ok(first), Ok(second)) = (Basic::from_code(a), Basic::from_code(b)) {
+            if let (Ok(first), Ok(second)) = (Basic::try_from(a), Basic::try_from(b)) {
                 if book.classes_apart(first, second) {
                     write!(out, " {a}-{b}")?;
                 }
@@ -33,7 +33,7 @@ fn classes(book: &Book, out: &mut String) -> Result<(), AllocError> {
 fn links(book: &Book, out: &mut String) -> Result<(), AllocError> {
     for a in 0..64u8 {
         for b in a..64u8 {
-            if let (Ok(first), Ok(second)) = (Directed::from_code(a), Directed::from_code(b)) {
+            if let (Ok(first), Ok(second)) = (Directed::try_from(a), Directed::try_from(b)) {
                 if is_least(first, second) && book.links_apart(first, second) {
                     write!(out, " l{a}-{b}")?;
                 }

@@ -39,13 +39,13 @@ impl fmt::Display for Answer {
         match *self {
             Answer::Done => f.write_str("ok"),
             Answer::Changed(effect) => {
-                let n = effect.number();
+                let n = u8::from(effect);
                 write!(f, "{n}")
             }
             Answer::Follows(true) => f.write_str("yes"),
             Answer::Follows(false) => f.write_str("no"),
             Answer::Refused(fault) => {
-                let n = fault.number();
+                let n = u8::from(fault);
                 write!(f, "fault {n}")
             }
         }

@@ -183,7 +183,7 @@ fn section<R: Rules, F: Shelf>(
         let line = lines[i];
         match Call::read(line.call) {
             Ok(Call::Family(code)) => {
-                let refused = Family::from_code(code).err();
+                let refused = Family::try_from(code).err();
                 if report.made(line, refused)? {
                     return Ok(Stop::Family(code, i + 1));
                 }

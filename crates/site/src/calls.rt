@@ -84,17 +84,17 @@ impl Written {
         ensures { RuleOf self result }
     {
         Ok(match self {
-            Written::Within(a, b) => Rule::Within(Basic::from_code(a)?, Basic::from_code(b)?),
-            Written::Apart(a, b) => Rule::Apart(Basic::from_code(a)?, Basic::from_code(b)?),
+            Written::Within(a, b) => Rule::Within(Basic::try_from(a)?, Basic::try_from(b)?),
+            Written::Apart(a, b) => Rule::Apart(Basic::try_from(a)?, Basic::try_from(b)?),
             Written::LinkWithin(a, b) => Rule::LinkWithin(
-                Directed::from_code(a)?,
-                Directed::from_code(b)?,
+                Directed::try_from(a)?,
+                Directed::try_from(b)?,
             ),
             Written::LinkApart(a, b) => Rule::LinkApart(
-                Directed::from_code(a)?,
-                Directed::from_code(b)?,
+                Directed::try_from(a)?,
+                Directed::try_from(b)?,
             ),
-            Written::Single(a) => Rule::Single(Directed::from_code(a)?),
+            Written::Single(a) => Rule::Single(Directed::try_from(a)?),
         })
     }
 }

@@ -1,4 +1,5 @@
 -- Merging two atoms that hold of the same things.
+use Rattle.std.specs.Prelude.{Option, Some, None}
 use Rattle.std.proofs.Common.{◌≡◌, ℕ, ◌≤◌, eqb, ltb, List, sym, ap, ◌∙◌, subst, arith}
 use Rattle.std.proofs.lemmas.Bool.{eqb-true, eqb-false, cond_both}
 use Rattle.theory.proofs.Applicable.{Settled, in_facts, bound}
@@ -18,11 +19,11 @@ use Rattle.vocabulary.specs.declared.questions.Atom.TheVariants.{IsIn, Joins}
 use Rattle.vocabulary.specs.declared.questions.Term.{Term}
 use Rattle.vocabulary.specs.declared.questions.Term.TheVariants.{Variable, Constant, Open}
 use Rattle.vocabulary.specs.declared.questions.Unifier.{Unifier}
-use Rattle.vocabulary.specs.declared.questions.Unifier.TheVariants.{Fails, Trivial, Binds}
+use Rattle.vocabulary.specs.declared.questions.Unifier.TheVariants.{Trivial, Binds}
 use Rattle.vocabulary.specs.declared.rules.Rule.{Rule}
 
 -- terms for which one thing serves unify, the unifier respects what serves, and the thing serves for the merged term
-binds_respects : (v : ℕ → Thing) (n : ℕ) (u : Term) → Serves name v u (v n) → Respects name v v (apply (Binds n u))
+binds_respects : (v : ℕ → Thing) (n : ℕ) (u : Term) → Serves name v u (v n) → Respects name v v (apply (Some (Binds n u)))
 binds_respects v n u s (Variable k) z h =
     cond_both (eqb k n) u (Variable k) (λ (t : Term). Serves name v t z)
     (λ e. subst (Serves name v u) (ap v (sym (eqb-true k n e)) ∙ h) s) (λ e. h)
@@ -33,13 +34,13 @@ unify_respects : (v : ℕ → Thing) (t u : Term) (x : Thing) → Serves name v 
 unify_respects v Open u x p q = (tt, λ t z h. h)
 unify_respects v (Variable m) Open x p q = (tt, λ t z h. h)
 unify_respects v (Variable m) (Variable n) x p q =
-    cond_both (ltb m n) (Binds n (Variable m)) (Binds m (Variable n)) (λ (k : Unifier). Agrees k × Respects name v v (apply k))
+    cond_both (ltb m n) (Some (Binds n (Variable m))) (Some (Binds m (Variable n))) (λ (k : Option Unifier). Agrees k × Respects name v v (apply k))
     (λ e. (tt, binds_respects v n (Variable m) (p ∙ sym q))) (λ e. (tt, binds_respects v m (Variable n) (q ∙ sym p)))
 unify_respects v (Variable m) (Constant a) x p q = (tt, binds_respects v m (Constant a) (subst (Serves name v (Constant a)) (sym p) q))
 unify_respects v (Constant a) Open x p q = (tt, λ t z h. h)
 unify_respects v (Constant a) (Variable n) x p q = (tt, binds_respects v n (Constant a) (subst (Serves name v (Constant a)) (sym q) p))
 unify_respects v (Constant a) (Constant b) x p q =
-    cond_both (eqb a.0 b.0) Trivial Fails (λ (k : Unifier). Agrees k × Respects name v v (apply k))
+    cond_both (eqb a.0 b.0) (Some Trivial) None (λ (k : Option Unifier). Agrees k × Respects name v v (apply k))
     (λ e. (tt, λ t z h. h)) (λ e. absurd (eqb-false a.0 b.0 e (let i : a ≡ b = cc in ap (λ (n : Name). n.0) i)))
 
 filled_serves : (v : ℕ → Thing) (t u : Term) (x : Thing) → Serves name v t x → Serves name v u x → Serves name v (filled t u) x

@@ -12,10 +12,10 @@ use Rattle.vocabulary.specs.declared.questions.Atom.TheVariants.{IsIn, Joins}
 use Rattle.vocabulary.specs.declared.questions.Term.{Term}
 use Rattle.vocabulary.specs.declared.questions.Term.TheVariants.{Variable, Constant, Open}
 use Rattle.vocabulary.specs.declared.questions.Unifier.{Unifier}
-use Rattle.vocabulary.specs.declared.questions.Unifier.TheVariants.{Fails, Trivial, Binds}
+use Rattle.vocabulary.specs.declared.questions.Unifier.TheVariants.{Trivial, Binds}
 use Rattle.vocabulary.specs.declared.rules.Rule.{Rule}
 use Rattle.vocabulary.specs.declared.rules.Rule.TheVariants.{Within, LinkWithin}
-use Rattle.std.specs.Prelude.{cond, List, ◌∷◌, ◌==◌, nat_lt}
+use Rattle.std.specs.Prelude.{cond, List, ◌∷◌, ◌==◌, nat_lt, Option, Some, None}
 use mathlib.Core.List.{Memᴰ}
 
 -- the atom that puts t into a basic class
@@ -37,29 +37,28 @@ pub data Becomes (rules : List Rule) : Atom → Atom → Type 0 where
   links : {d : Directed} {l : Link} {t u : Term} → Memᴰ (LinkWithin d (Forward l)) rules → Becomes rules (Joins l t u) (joining d t u)
   turned : {d : Directed} {l : Link} {t u : Term} → Memᴰ (LinkWithin d (Backward l)) rules → Becomes rules (Joins l t u) (joining d u t)
 
--- the open term unifies with any; of two variables the higher is bound, and a name binds any variable; two different names fail
-abbrev pub unify : Term → Term → Unifier
-unify Open u = Trivial
-unify (Variable m) Open = Trivial
-unify (Variable m) (Variable n) = cond (nat_lt m n) (Binds n (Variable m)) (Binds m (Variable n))
-unify (Variable m) (Constant a) = Binds m (Constant a)
-unify (Constant a) Open = Trivial
-unify (Constant a) (Variable n) = Binds n (Constant a)
-unify (Constant a) (Constant b) = cond (a.0 == b.0) Trivial Fails
+-- what makes two terms equal: the open term is equal to any; of two variables the higher is bound, and a name binds any variable; nothing makes two different names equal
+abbrev pub unify : Term → Term → Option Unifier
+unify Open u = Some Trivial
+unify (Variable m) Open = Some Trivial
+unify (Variable m) (Variable n) = cond (nat_lt m n) (Some (Binds n (Variable m))) (Some (Binds m (Variable n)))
+unify (Variable m) (Constant a) = Some (Binds m (Constant a))
+unify (Constant a) Open = Some Trivial
+unify (Constant a) (Variable n) = Some (Binds n (Constant a))
+unify (Constant a) (Constant b) = cond (a.0 == b.0) (Some Trivial) None
 
 -- the two terms can be made equal
-abbrev pub Agrees : Unifier → Type 0
-Agrees Fails = ⊥
-Agrees Trivial = Unit {0}
-Agrees (Binds n t) = Unit {0}
+abbrev pub Agrees : Option Unifier → Type 0
+Agrees None = ⊥
+Agrees (Some k) = Unit {0}
 
 -- what becomes of a term
-abbrev pub apply : Unifier → Term → Term
-apply Fails t = t
-apply Trivial t = t
-apply (Binds n u) (Variable m) = cond (m == n) u (Variable m)
-apply (Binds n u) (Constant a) = Constant a
-apply (Binds n u) Open = Open
+abbrev pub apply : Option Unifier → Term → Term
+apply None t = t
+apply (Some Trivial) t = t
+apply (Some (Binds n u)) (Variable m) = cond (m == n) u (Variable m)
+apply (Some (Binds n u)) (Constant a) = Constant a
+apply (Some (Binds n u)) Open = Open
 
 -- the open term takes the other term
 abbrev pub filled : Term → Term → Term
@@ -68,7 +67,7 @@ filled (Variable m) u = Variable m
 filled (Constant a) u = Constant a
 
 -- the second terms u and u' are made equal after the first terms t and t' were
-abbrev pub unify_second : Term → Term → Term → Term → Unifier
+abbrev pub unify_second : Term → Term → Term → Term → Option Unifier
 unify_second t t' u u' = unify (apply (unify t t') u) (apply (unify t t') u')
 
 -- two atoms of one class or link merge: into what atom, and what becomes of every term of the question

@@ -1,5 +1,5 @@
 -- Codes are in range and tell directed links and basic classes in range apart; turning twice is nothing.
-use Rattle.std.proofs.Common.{◌≡◌, ℕ, ◌<◌, refl, ap, arith}
+use Rattle.std.proofs.Common.{◌≡◌, ℕ, refl, ap, arith}
 use Rattle.vocabulary.specs.Codes.{turn, directed_code, basic_code}
 use Rattle.vocabulary.specs.Ranges.{DirectedFits, BasicFits}
 use Rattle.vocabulary.specs.declared.basic.Basic.{Basic}
@@ -14,14 +14,6 @@ turn_turn (Backward l) = refl
 pub turn_fits : (d : Directed) → DirectedFits d → DirectedFits (turn d)
 turn_fits (Forward l) h = h
 turn_fits (Backward l) h = h
-
-pub directed_below : (d : Directed) → DirectedFits d → directed_code d < 64
-directed_below (Forward l) h = omega arith
-directed_below (Backward l) h = omega arith
-
-pub basic_below : (b : Basic) → BasicFits b → basic_code b < 128
-basic_below (Named c) h = omega arith
-basic_below (Start d) h = omega (arith, directed_below d h)
 
 pub directed_same : (d e : Directed) → DirectedFits d → DirectedFits e → directed_code d ≡ directed_code e → d ≡ e
 directed_same (Forward l) (Forward m) h k e = ap (λ (n : ℕ). Forward (record { 0 = n })) e

@@ -1,7 +1,7 @@
 //! What an entry or a withdrawal did.
 
 ghost use Rattle.std.specs.Prelude.{◌≡◌};
-ghost use Rattle.vocabulary.specs.Effects.{effect_number};
+ghost use Rattle.vocabulary.specs.Effects.{effect_number, effect_of};
 
 /// Whether the call changed what is held: an entry of what stands already, or a withdrawal of what is absent, does not.
 #[derive(Clone, Copy, PartialEq, Eq)]
@@ -10,14 +10,27 @@ pub enum Effect {
     Changed,
 }
 
-impl Effect {
-    /// 0 where nothing changed, 1 where it did.
-    pub fn number(self) -> u8
-        ensures { result ≡ effect_number self }
-    {
-        match self {
+/// 0 where nothing changed, 1 where it did.
+impl From<Effect> for u8 {
+    ghost from_gives = { λ effect n. n ≡ effect_number effect };
+
+    fn from(effect: Effect) -> u8 {
+        match effect {
             Effect::Unchanged => 0,
             Effect::Changed => 1,
+        }
+    }
+}
+
+/// Where it is true that something changed.
+impl From<bool> for Effect {
+    ghost from_gives = { λ changed effect. effect ≡ effect_of changed };
+
+    fn from(changed: bool) -> Effect {
+        if changed {
+            Effect::Changed
+        } else {
+            Effect::Unchanged
         }
     }
 }

@@ -34,12 +34,12 @@ pub enum Fault {
     Rows,
 }
 
-impl Fault {
-    /// The number by which the fault is known.
-    pub fn number(self) -> u8
-        ensures { result ≡ number self }
-    {
-        match self {
+/// The number by which the fault is known.
+impl From<Fault> for u8 {
+    ghost from_gives = { λ fault n. n ≡ number fault };
+
+    fn from(fault: Fault) -> u8 {
+        match fault {
             Fault::Family => 1,
             Fault::Range => 2,
             Fault::Form => 3,
@@ -54,7 +54,9 @@ impl Fault {
             Fault::Rows => 12,
         }
     }
+}
 
+impl Fault {
     /// The clash that the fault carries, if it carries one.
     pub fn clash(self) -> Option<Clash>
         ensures { result ≡ clash_of self }

@@ -57,11 +57,9 @@ impl PartialEq for Atom {
     }
 }
 
-/// What makes two terms equal.
+/// What makes two terms equal, where something does.
 #[derive(Clone, Copy)]
 pub enum Unifier {
-    /// Nothing does: they are different names.
-    Fails,
     /// Nothing has to be done.
     Trivial,
     /// The variable gives way to the term wherever it stands.

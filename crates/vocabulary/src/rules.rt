@@ -8,7 +8,7 @@ ghost use Rattle.std.specs.Cmp.{decided, partial_equiv_from_equiv};
 ghost use Rattle.vocabulary.specs.Equality.{rule_eq};
 ghost use Rattle.vocabulary.specs.Equality.{rule_eq_same};
 
-use crate::basic::{Basic, Directed};
+use crate::basic::{Basic, Coded, Directed};
 use crate::faults::Fault;
 
 /// A rule of a book.
@@ -69,28 +69,34 @@ pub enum Family {
     F,
 }
 
-impl Family {
-    /// The family of a code, or the fault for any code but 0 and 1.
-    pub fn from_code(code: u8) -> Result<Family, Fault>
-        ensures { FamilyOf code result }
-    {
+/// The family of a code, or the fault for any code but 0 and 1.
+impl TryFrom<u8> for Family {
+    type Error = Fault;
+
+    ghost try_from_gives = { FamilyOf };
+
+    fn try_from(code: u8) -> Result<Family, Fault> {
         match code {
             0 => Ok(Family::R),
             1 => Ok(Family::F),
             _ => Err(Fault::Family),
         }
     }
+}
 
-    /// 0 for R, 1 for F.
-    pub fn code(self) -> u8
-        ensures { result ≡ family_code self }
-    {
-        match self {
+/// 0 for R, 1 for F.
+impl From<Family> for u8 {
+    ghost from_gives = { λ family n. n ≡ family_code family };
+
+    fn from(family: Family) -> u8 {
+        match family {
             Family::R => 0,
             Family::F => 1,
         }
     }
+}
 
+impl Family {
     /// Whether a rule's form is one of the family's.
     pub fn takes(self, rule: Rule) -> bool
         ensures { Decides result (Takes self rule) }

@@ -5,7 +5,7 @@ use Rattle.book.proofs.book.Book.classes_apart.Goals.{then-not-fits-via-then-not
 use Rattle.std.proofs.lemmas.Bool.{both_ways}
 use Rattle.theory.proofs.Closed.{excluded}
 use Rattle.theory.specs.Closure.{classes}
-use Rattle.vocabulary.proofs.Codes.{basic_below}
+use Rattle.vocabulary.specs.Codes.{basic_below}
 use Rattle.vocabulary.specs.Codes.{basic_code}
 use Rattle.std.proofs.Common.{sym, refl}
 

@@ -5,7 +5,7 @@ use Rattle.book.proofs.book.Book.links_apart.Goals.{then-not-fits-via-then-not-f
 use Rattle.std.proofs.lemmas.Bool.{both_ways}
 use Rattle.theory.proofs.Closed.{excluded}
 use Rattle.theory.specs.Closure.{links}
-use Rattle.vocabulary.proofs.Codes.{directed_below}
+use Rattle.vocabulary.specs.Codes.{directed_below}
 use Rattle.vocabulary.specs.Codes.{directed_code}
 use Rattle.std.proofs.Common.{sym, refl}
 
