@@ -16,7 +16,6 @@ use Rattle.question.specs.declared.record.Record.{Record}
 use Rattle.std.proofs.lemmas.Bool.Decides.{same_from_decides}
 use Rattle.std.proofs.lemmas.List.{drop-drop, map_push}
 use Rattle.std.proofs.lemmas.Bool.{false≢true}
-use Rattle.theory.proofs.Lists.{map_in, map_out}
 use Rattle.theory.specs.Questions.{Query}
 use Rattle.theory.specs.Tidying.{tidy}
 use Rattle.vocabulary.specs.Faults.{number}
@@ -45,13 +44,13 @@ kept_same xs ys keeps h = no_repeats_like answers_same ys (keeps (no_repeats_lik
 
 -- what the list without repeats says of records, said of their questions
 present_row : (rs : List Record) (r : Record) → Present Same rs r → Memᴰ (query r) (map query rs)
-present_row rs r (i, l, e) = subst (λ (q : Query). Memᴰ q (map query rs)) ((e r).0 refl) (map_in query (member_at rs i r l))
+present_row rs r (i, l, e) = subst (λ (q : Query). Memᴰ q (map query rs)) ((e r).0 refl) (Memᴰ.map query (member_at rs i r l))
 
 absent_row : (rs : List Record) (r : Record) → Absent Same rs r → Memᴰ (query r) (map query rs) → ⊥
 absent_row rs r h m =
-    let (y, k, e) = map_out query rs m in
+    let (y, k, e) = Memᴰ.of_map query rs m in
     let (i, l, f) = place_of k in
-    false≢true ((h i r l).1 (ap query (f r) ∙ sym e))
+    false≢true ((h i r l).1 (ap query (f r) ∙ e))
 
 -- nothing is put in
 grown_none : (S : Query → Type 0) (s t : Distinct Record) → items t ≡ items s → spare t ≡ spare s → length t.places.now ≡ length s.places.now → Grown S s t
