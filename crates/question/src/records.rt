@@ -7,7 +7,6 @@ ghost use Rattle.std.specs.Cmp.{decided, on_per, partial_equiv_from_equiv};
 
 use crate::parts::Parts;
 use crate::record::Record;
-use std::alloc::AllocError;
 use vocabulary::questions::{Atom, Term};
 
 /// Whether two heads are equal.
@@ -60,7 +59,7 @@ impl Record {
     }
 }
 
-/// Two records are the same where their questions are, whatever lies behind the used places.
+/// Two records are the same where their questions are. A derived test would read what lies behind the used places too; the fingerprints tell most different ones apart at once.
 impl PartialEq for Record {
     ghost eq = { λ x y. query_eq (query x) (query y) };
 
@@ -71,16 +70,5 @@ impl PartialEq for Record {
         ensures same { Decides result (query self.now ≡ query other.now) }
     {
         self.print == other.print && self.parts.same(&other.parts)
-    }
-}
-
-/// A copy, so that a table of many places can be made of one record.
-impl Clone for Record {
-    ghost is_clone = { λ x y. y ≡ x };
-
-    ghost is_infallible = { λ _. Unit {0} };
-
-    fn clone(&self) -> Result<Record, AllocError> {
-        Ok(*self)
     }
 }

@@ -1,18 +1,13 @@
-use Rattle.question.proofs.Ordering.{body_turn, body_room, body_end}
-use Rattle.question.proofs.Shorts.{listed_few}
+use Rattle.question.proofs.Ordering.{body_more, body_room}
 use Rattle.question.proofs.order.noted_atoms.Goals as goal
 use Rattle.question.specs.Shorts.{listed}
-use Rattle.theory.specs.Tidying.{firsts, all_terms}
-use Rattle.vocabulary.specs.declared.questions.Atom.{Atom}
-use Rattle.std.proofs.Common.{List, length, ap, ◌∙◌, arith}
+use Rattle.std.proofs.Common.{[], ◌∷◌, length, sym, ap, ◌∙◌, arith}
+use Rattle.theory.specs.Tidying.{all_terms, firsts}
 
 pub noted_atom-made-requires : goal.noted_atom-made-requires
-noted_atom-made-requires c = omega (arith, listed_few c.args.xs.now, ap length c.all-all.ensures)
+noted_atom-made-requires c = omega (arith, ap length c.loop-a.invariant, body_room c.all-a-items.result.now c.loop-a.a-index (listed c.args.seen) c.loop-a-test.true)
 
 pub loop-a-preserved : goal.loop-a-preserved
 loop-a-preserved c =
-    (body_turn _ _ _ _ _ _ c.loop-a-test.true c.noted_atom-made.ensures c.loop-a.invariant.0, body_room _ _ _ _ c.noted_atom-made.ensures c.loop-a.invariant.1)
-
-pub returns : goal.returns
-returns c =
-    body_end _ _ _ _ c.loop-a-test.false c.loop-a.invariant.0 ∙ ap (λ (xs : List Atom). firsts (all_terms xs) (listed c.args.seen)) c.all-all.ensures
+    c.noted_atom-made.ensures ∙ ap (firsts (all_terms (_ ∷ []))) c.loop-a.invariant
+    ∙ sym (body_more _ c.all-a-items.result.now c.loop-a.a-index (listed c.args.seen) c.loop-a-test.true)

@@ -1,10 +1,17 @@
-use Rattle.question.proofs.Ordering.{firsts_append}
+use Rattle.question.proofs.Ordering.{firsts_append, firsts_few}
 use Rattle.question.proofs.parts.Parts.order.Goals as goal
 use Rattle.question.specs.Shorts.{listed}
-use Rattle.theory.specs.Tidying.{firsts, all_terms}
-use Rattle.std.proofs.Common.{[], sym, ap, ◌∙◌}
+use Rattle.std.proofs.Common.{[], length, ap, arith}
+use Rattle.theory.specs.Tidying.{all_terms}
+
+pub noted_all-requires : goal.noted_all-requires
+noted_all-requires c = omega (arith, ap length c.empty.ensures)
+
+pub noted_atoms-requires : goal.noted_atoms-requires
+noted_atoms-requires c = omega (arith, ap length c.noted_all.ensures, firsts_few c.all.result.now (listed c.empty.result), ap length c.empty.ensures)
 
 pub returns : goal.returns
 returns c =
-    let r = c.args.self.now in
-    c.noted_atoms.ensures ∙ ap (firsts (all_terms (listed r.atoms))) c.noted_head.ensures.0 ∙ sym (firsts_append (listed r.head) (all_terms (listed r.atoms)) [])
+    let p = c.args.self.now in
+    let whole = firsts_append (listed p.head) (all_terms (listed p.atoms)) [] in
+    cc
