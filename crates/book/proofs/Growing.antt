@@ -1,5 +1,5 @@
 -- What a step of one table adds, of the classes or links that have the codes.
-use Rattle.std.proofs.Common.{◌≡◌, ℕ, Bool, List, sym, refl, ap, subst, subst₂, inl, inr, arith}
+use Rattle.std.proofs.Common.{◌≡◌, ℕ, Bool, List, sym, refl, ap, subst, inl, inr, arith}
 use Rattle.bits.specs.Relations.{Grows, Inherited, Inherits, Joined, Joins, On, base, flip, pass}
 use Rattle.book.specs.Growth.{ClassOn, ClassStep, ClassesPass, LinkOn, LinkStep, LinksPass, Went}
 use Rattle.book.specs.Tables.{PairOn}
@@ -102,7 +102,3 @@ excluded_link d e hd he {s = s} g =
     links_go (λ family rules. Excluded family rules (links d e)) (λ words. PairOn DirectedFits directed_code 1 words d e) g
     (λ family rules p old. all_joined DirectedFits directed_code directed_same (λ v w. Excluded family rules (links v w)) (λ v w h. link_swap h) 1 s old d e hd he g p)
     (λ shut. record { first = hd; second = he; on = shut (directed_below d hd) (directed_below e he) })
-
--- a pair of numbers, of other numbers that they are equal to
-pub on_at : (stride i j a b : ℕ) → i ≡ a → j ≡ b → (s : List ℕ) → On stride s i j → On stride s a b
-on_at stride i j a b ei ej s h = subst₂ (λ (m n : ℕ). On stride s m n) ei ej h

@@ -31,17 +31,10 @@ node_same (Class b) (Link d) h k e = absurd (omega (arith, basic_below b h))
 node_same (Link d) (Class b) h k e = absurd (omega (arith, basic_below b k))
 node_same (Link d) (Link e) h k s = ap Link (directed_same d e h k (omega arith))
 
--- a test of a bit, from what the calls answer
-pub bit_told : {r : Bool} {w s : List ℕ} {i j : ℕ} → r ≡ bit w i → w ≡ s → i ≡ j → bit s j ≡ r
-bit_told {w = w} {s = s} {i = i} {j = j} e ew ei = sym (e ∙ ap (bit w) ei ∙ ap (λ (t : List ℕ). bit t j) ew)
-
 -- one mark is set
 module _ (to : Node) (s t : List ℕ) (fits : NodeFits to) (size : length s ≡ 3) (m : Marked (node_code to) s t) where
   inside : node_code to < 64 * length s
   inside = omega (arith, node_below to fits)
-
-  pub marked_node : NodeOn t to
-  marked_node = record { fits = fits; on = m.here inside }
 
   pub marked_more : (n : Node) → NodeOn s n → NodeOn t n
   marked_more n h =

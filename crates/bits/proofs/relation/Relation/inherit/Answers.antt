@@ -16,14 +16,3 @@ loop-k-preserved g c =
     let to = c.args.to in
     let k = c.loop-k.k in
     inherits_then (λ v below here l. below_more (λ j. On z v to j → On z v from j) k (below l) (here l)) c.loop-k.invariant c.pass-any.ensures
-
-pub returns : goal.returns
-returns g c =
-    let h = c.loop-k.invariant in
-    record {
-      more = h.more;
-      sound = h.sound;
-      at_most = h.at_most;
-      added = h.added;
-      idle = λ e. ((h.idle e).0, λ l k below o. (h.idle e).1 l k (omega (arith, c.loop-k-test.false, c.size-n.ensures)) o);
-    }
