@@ -1,6 +1,6 @@
 //! Short lists: reading them, and making one from another.
 
-ghost use Rattle.std.specs.Prelude.{◌≡◌, ◌<◌, ◌≤◌, [], ◌∷◌, ◌++◌, length, map, slice_index_or, slice_set};
+ghost use Rattle.std.specs.Prelude.{◌≡◌, ◌<◌, ◌≤◌, [], ◌∷◌, ◌++◌, length, map, slice_set};
 ghost use Rattle.question.specs.Shorts.{Computes, listed};
 ghost use Rattle.std.specs.List.{remove};
 ghost use mathlib.Core.List.{Memᴰ};
@@ -65,14 +65,6 @@ impl<T: Copy, const N: usize> Short<T, N> {
         ensures few { length result.now ≤ N }
     {
         &self.items[..self.count]
-    }
-
-    /// The element at `i`.
-    pub(crate) fn at(&self, i: usize) -> T
-        requires { i < length (listed self.now) }
-        ensures { (d : T) → result ≡ slice_index_or (listed self.now) i d }
-    {
-        self.items[i]
     }
 
     /// The list with `x` behind the others.

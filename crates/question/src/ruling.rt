@@ -42,9 +42,11 @@ fn if_open(t: Term, a: Atom) -> Option<Atom>
     }
 }
 
-/// What one rule makes of an atom, by cases.
-fn ruled(rule: Rule, a: Atom) -> Option<Atom>
-    ensures { result ≡ made_by rule a }
+/// All that one rule makes of an atom: at most one atom.
+#[tactic(auto, using(crate::proofs::Exact::made_all))]
+pub(crate) fn becomes(rule: Rule, a: Atom) -> Option<Atom>
+    ensures made { result ≡ made_by rule a }
+    ensures exact { Made rule a result }
 {
     match (rule, a) {
         (Rule::Within(b, Basic::Named(c)), Atom::IsIn(d, t)) if c.0 == d.0 => Some(concerning(
@@ -62,14 +64,6 @@ fn ruled(rule: Rule, a: Atom) -> Option<Atom>
         ),
         _ => None,
     }
-}
-
-/// All that one rule makes of an atom: at most one atom.
-pub(crate) fn becomes(rule: Rule, a: Atom) -> Option<Atom>
-    ensures made { result ≡ made_by rule a }
-    ensures exact { Made rule a result }
-{
-    ruled(rule, a)
 }
 
 impl Parts {
