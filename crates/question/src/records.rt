@@ -44,7 +44,8 @@ impl Record {
     }
 }
 
-/// Two records are the same where their questions are. A derived test would read what lies behind the used places too; the fingerprints tell most different ones apart at once.
+/// Two records are the same where their questions are.
+// By hand: a derived test would read what lies behind the used places too.
 impl PartialEq for Record {
     ghost eq = { λ x y. query_eq (query x) (query y) };
 
