@@ -116,10 +116,9 @@ impl Parts {
     {
         let atoms = self.atoms.all();
         let merger = merge(atoms[i], atoms[j])?;
-        let left = Parts {
-            head: self.head,
-            atoms: self.atoms.with_at(i, merger.atom).without(j),
-        };
+        let mut left = *self;
+        left.atoms.set(i, merger.atom);
+        left.atoms.remove(j);
         Some(left.map(|t| merger.given(t)))
     }
 }

@@ -72,9 +72,8 @@ impl Parts {
         requires { i < length (listed self.now.atoms) }
         ensures { of_parts result ≡ replaced_by (of_parts self.now) i a }
     {
-        Parts {
-            head: self.head,
-            atoms: self.atoms.with_at(i, a),
-        }
+        let mut made = *self;
+        made.atoms.set(i, a);
+        made
     }
 }
