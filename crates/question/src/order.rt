@@ -63,25 +63,24 @@ impl Parts {
 }
 
 /// The place of a variable that is in the order.
-fn place_of(n: u8, order: &[u8]) -> u8
-    requires { (length order.now ≤ 16) × (known n order.now ≡ true) }
-    ensures { result ≡ place n order.now }
+fn place_of(n: u8, order: &Short<u8, 16>) -> u8
+    requires { known n (listed order.now) ≡ true }
+    ensures { result ≡ place n (listed order.now) }
 {
-    order.iter().position(|m| n == *m).unwrap() as u8
+    order.all().iter().position(|m| n == *m).unwrap() as u8
 }
 
 impl Parts {
     /// The question with each variable numbered by its place in the order.
-    pub(crate) fn numbered(&self, order: &[u8]) -> Parts
-        requires few { length order.now ≤ 16 }
-        requires head { (t : Term) → Memᴰ t (listed self.now.head) → Placed order.now t }
-        requires atoms { (a : Atom) → Memᴰ a (listed self.now.atoms) → OfAtom (Placed order.now) a }
-        ensures { of_parts result ≡ on_query (numbered order.now) (of_parts self.now) }
+    pub(crate) fn numbered(&self, order: &Short<u8, 16>) -> Parts
+        requires head { (t : Term) → Memᴰ t (listed self.now.head) → Placed (listed order.now) t }
+        requires atoms { (a : Atom) → Memᴰ a (listed self.now.atoms) → OfAtom (Placed (listed order.now)) a }
+        ensures { of_parts result ≡ on_query (numbered (listed order.now)) (of_parts self.now) }
     {
         self.map(
             |t: Term| -> Term
-                requires { (length order.now ≤ 16) × Placed order.now t }
-                ensures { result ≡ numbered order.entry.now t }
+                requires { Placed (listed order.now) t }
+                ensures { result ≡ numbered (listed order.entry.now) t }
             {
                 match t {
                     Term::Variable(n) => Term::Variable(place_of(n, order)),
