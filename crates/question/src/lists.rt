@@ -1,6 +1,6 @@
 //! Short lists: reading them, and making one from another.
 
-ghost use Rattle.std.specs.Prelude.{◌≡◌, ◌<◌, ◌≤◌, [], ◌∷◌, ◌++◌, length, map, slice_index_or, slice_set};
+ghost use Rattle.std.specs.Prelude.{◌≡◌, ◌<◌, ◌≤◌, [], ◌∷◌, ◌++◌, length, map, slice_set};
 ghost use Rattle.question.specs.Shorts.{Computes, listed};
 ghost use Rattle.std.specs.List.{remove};
 ghost use mathlib.Core.List.{Memᴰ};
@@ -45,7 +45,7 @@ impl<T: Copy + Blank, const N: usize> Short<T, N> {
     {
         let mut made = Short::empty();
         for x in xs {
-            made = made.with(f(*x));
+            made.push(f(*x));
         }
         made
     }
@@ -67,43 +67,30 @@ impl<T: Copy, const N: usize> Short<T, N> {
         &self.items[..self.count]
     }
 
-    /// The element at `i`.
-    pub(crate) fn at(&self, i: usize) -> T
-        requires { i < length (listed self.now) }
-        ensures { (d : T) → result ≡ slice_index_or (listed self.now) i d }
+    /// Puts `x` behind the others.
+    pub(crate) fn push(&mut self, x: T)
+        requires { length (listed self.old) < N }
+        ensures { listed self.new ≡ listed self.old ++ x ∷ [] }
     {
-        self.items[i]
+        self.items[self.count] = x;
+        self.count += 1;
     }
 
-    /// The list with `x` behind the others.
-    pub(crate) fn with(self, x: T) -> Short<T, N>
-        requires { length (listed self) < N }
-        ensures { listed result ≡ listed self ++ x ∷ [] }
+    /// Puts `x` in place of the element at `i`.
+    pub(crate) fn set(&mut self, i: usize, x: T)
+        requires { i < length (listed self.old) }
+        ensures { listed self.new ≡ slice_set (listed self.old) i x }
     {
-        let mut s = self;
-        s.items[s.count] = x;
-        s.count += 1;
-        s
+        self.items[i] = x;
     }
 
-    /// The list with `x` in place of the element at `i`.
-    pub(crate) fn with_at(self, i: usize, x: T) -> Short<T, N>
-        requires { i < length (listed self) }
-        ensures { listed result ≡ slice_set (listed self) i x }
+    /// Takes out the element at `j`: the later ones move down.
+    pub(crate) fn remove(&mut self, j: usize)
+        requires { j < length (listed self.old) }
+        ensures { listed self.new ≡ remove (listed self.old) j }
     {
-        let mut s = self;
-        s.items[i] = x;
-        s
-    }
-
-    /// The list without the element at `j`: the later ones move down.
-    pub(crate) fn without(self, j: usize) -> Short<T, N>
-        requires { j < length (listed self) }
-        ensures { listed result ≡ remove (listed self) j }
-    {
-        let mut s = self;
-        s.items.copy_within(j + 1..self.count, j);
-        s.count -= 1;
-        s
+        let count = self.count;
+        self.items.copy_within(j + 1..count, j);
+        self.count = count - 1;
     }
 }

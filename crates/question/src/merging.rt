@@ -96,9 +96,10 @@ fn merge_links(l: Link, t: Term, u: Term, v: Term, w: Term) -> Option<Merger>
     })
 }
 
-/// How two atoms merge, by cases.
-fn merge_atoms(a: Atom, b: Atom) -> Option<Merger>
-    ensures { result ≡ merging a b }
+/// How two atoms merge: in one way at most.
+fn merge(a: Atom, b: Atom) -> Option<Merger>
+    ensures made { result ≡ merging a b }
+    ensures exact { MergesAs a b result }
 {
     match (a, b) {
         (Atom::IsIn(c, t), Atom::IsIn(d, u)) if c.0 == d.0 => merge_classes(c, t, u),
@@ -107,25 +108,17 @@ fn merge_atoms(a: Atom, b: Atom) -> Option<Merger>
     }
 }
 
-/// How two atoms merge: in one way at most.
-fn merge(a: Atom, b: Atom) -> Option<Merger>
-    ensures made { result ≡ merging a b }
-    ensures exact { MergesAs a b result }
-{
-    merge_atoms(a, b)
-}
-
 impl Parts {
     /// The question with the atoms at `i` and `j` merged, if they merge.
     pub(crate) fn merged(&self, i: usize, j: usize) -> Option<Parts>
         requires { (i < j) × (j < length (listed self.now.atoms)) }
         ensures { (d : Atom) → MergesAt (of_parts self.now) (slice_index_or (listed self.now.atoms) i d) (slice_index_or (listed self.now.atoms) j d) i j result }
     {
-        let merger = merge(self.atoms.at(i), self.atoms.at(j))?;
-        let left = Parts {
-            head: self.head,
-            atoms: self.atoms.with_at(i, merger.atom).without(j),
-        };
+        let atoms = self.atoms.all();
+        let merger = merge(atoms[i], atoms[j])?;
+        let mut left = *self;
+        left.atoms.set(i, merger.atom);
+        left.atoms.remove(j);
         Some(left.map(|t| merger.given(t)))
     }
 }

@@ -10,16 +10,14 @@ use crate::parts::Parts;
 use crate::short::Short;
 use vocabulary::questions::{Atom, Term};
 
-/// The atoms kept, and the atom behind them if none of them equals it.
+/// Puts the atom behind those kept, unless one of them equals it.
 #[tactic(auto, using(crate::proofs::Counting::stands_any))]
-fn with_new(kept: Short<Atom, 6>, a: Atom) -> Short<Atom, 6>
-    requires { length (listed kept) < 6 }
-    ensures { listed result ≡ added (listed kept) a }
+fn keep(kept: &mut Short<Atom, 6>, a: Atom)
+    requires { length (listed kept.old) < 6 }
+    ensures { listed kept.new ≡ added (listed kept.old) a }
 {
-    if kept.all().contains(&a) {
-        kept
-    } else {
-        kept.with(a)
+    if !kept.all().contains(&a) {
+        kept.push(a);
     }
 }
 
@@ -29,7 +27,7 @@ fn once_each(xs: &Short<Atom, 6>) -> Short<Atom, 6>
 {
     let mut made = Short::empty();
     for a in xs.all() {
-        made = with_new(made, *a);
+        keep(&mut made, *a);
     }
     made
 }

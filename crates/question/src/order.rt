@@ -12,85 +12,75 @@ use crate::parts::Parts;
 use crate::short::Short;
 use vocabulary::questions::{Atom, Term};
 
-/// The variables seen, with that of the term where it is new.
+/// Notes the variable of the term where it is new.
 #[tactic(auto, unfolding(theory::specs::Tidying::firsts))]
-fn noted(seen: Short<u8, 16>, t: Term) -> Short<u8, 16>
-    requires { length (listed seen) < 16 }
-    ensures { listed result ≡ firsts (t ∷ []) (listed seen) }
+fn note(seen: &mut Short<u8, 16>, t: Term)
+    requires { length (listed seen.old) < 16 }
+    ensures { listed seen.new ≡ firsts (t ∷ []) (listed seen.old) }
 {
     match t {
-        Term::Variable(n) if !seen.all().contains(&n) => seen.with(n),
-        _ => seen,
+        Term::Variable(n) if !seen.all().contains(&n) => seen.push(n),
+        _ => (),
     }
 }
 
-/// The variables seen, with those of the terms that are new.
+/// Notes those variables of the terms that are new.
 #[tactic(auto, unfolding(theory::specs::Tidying::firsts))]
-fn noted_all(seen: Short<u8, 16>, ts: &[Term]) -> Short<u8, 16>
-    requires { length (listed seen) + length ts.now ≤ 16 }
-    ensures { listed result ≡ firsts ts.now (listed seen) }
+fn note_all(seen: &mut Short<u8, 16>, ts: &[Term])
+    requires { length (listed seen.old) + length ts.now ≤ 16 }
+    ensures { listed seen.new ≡ firsts ts.now (listed seen.old) }
 {
-    let mut made = seen;
     for t in ts {
-        made = noted(made, *t);
+        note(seen, *t);
     }
-    made
 }
 
-/// The variables seen, with those of the atom that are new.
+/// Notes those variables of the atom that are new.
 #[tactic(auto, unfolding(theory::specs::Tidying::all_terms))]
-fn noted_atom(seen: Short<u8, 16>, a: Atom) -> Short<u8, 16>
-    requires { length (listed seen) + 2 ≤ 16 }
-    ensures { listed result ≡ firsts (all_terms (a ∷ [])) (listed seen) }
+fn note_atom(seen: &mut Short<u8, 16>, a: Atom)
+    requires { length (listed seen.old) + 2 ≤ 16 }
+    ensures { listed seen.new ≡ firsts (all_terms (a ∷ [])) (listed seen.old) }
 {
     match a {
-        Atom::IsIn(_, t) => noted_all(seen, &[t]),
-        Atom::Joins(_, t, u) => noted_all(seen, &[t, u]),
+        Atom::IsIn(_, t) => note_all(seen, &[t]),
+        Atom::Joins(_, t, u) => note_all(seen, &[t, u]),
     }
-}
-
-/// The variables seen, with those of the atoms that are new.
-#[tactic(auto, unfolding(theory::specs::Tidying::firsts, theory::specs::Tidying::all_terms))]
-fn noted_atoms(seen: Short<u8, 16>, xs: &Short<Atom, 6>) -> Short<u8, 16>
-    requires { length (listed seen) ≤ 4 }
-    ensures { listed result ≡ firsts (all_terms (listed xs.now)) (listed seen) }
-{
-    let mut made = seen;
-    for a in xs.all() {
-        made = noted_atom(made, *a);
-    }
-    made
 }
 
 impl Parts {
-    /// The order of the variables, head first.
+    /// The variables in the order in which they first stand, head first.
+    #[tactic(auto, unfolding(theory::specs::Tidying::firsts, theory::specs::Tidying::all_terms))]
     pub(crate) fn order(&self) -> Short<u8, 16>
         ensures { listed result ≡ firsts (listed self.now.head ++ all_terms (listed self.now.atoms)) [] }
     {
-        noted_atoms(noted_all(Short::empty(), self.head.all()), &self.atoms)
+        let mut seen = Short::empty();
+        note_all(&mut seen, self.head.all());
+        for a in self.atoms.all() {
+            note_atom(&mut seen, *a);
+        }
+        seen
     }
 }
 
 /// The place of a variable that is in the order.
-fn place_of(n: u8, order: &[u8]) -> u8
-    requires { (length order.now ≤ 16) × (known n order.now ≡ true) }
-    ensures { result ≡ place n order.now }
+fn place_of(n: u8, order: &Short<u8, 16>) -> u8
+    requires { known n (listed order.now) ≡ true }
+    ensures { result ≡ place n (listed order.now) }
 {
-    order.iter().position(|m| n == *m).unwrap() as u8
+    order.all().iter().position(|m| n == *m).unwrap() as u8
 }
 
 impl Parts {
     /// The question with each variable numbered by its place in the order.
-    pub(crate) fn numbered(&self, order: &[u8]) -> Parts
-        requires few { length order.now ≤ 16 }
-        requires head { (t : Term) → Memᴰ t (listed self.now.head) → Placed order.now t }
-        requires atoms { (a : Atom) → Memᴰ a (listed self.now.atoms) → OfAtom (Placed order.now) a }
-        ensures { of_parts result ≡ on_query (numbered order.now) (of_parts self.now) }
+    pub(crate) fn numbered(&self, order: &Short<u8, 16>) -> Parts
+        requires head { (t : Term) → Memᴰ t (listed self.now.head) → Placed (listed order.now) t }
+        requires atoms { (a : Atom) → Memᴰ a (listed self.now.atoms) → OfAtom (Placed (listed order.now)) a }
+        ensures { of_parts result ≡ on_query (numbered (listed order.now)) (of_parts self.now) }
     {
         self.map(
             |t: Term| -> Term
-                requires { (length order.now ≤ 16) × Placed order.now t }
-                ensures { result ≡ numbered order.entry.now t }
+                requires { Placed (listed order.now) t }
+                ensures { result ≡ numbered (listed order.entry.now) t }
             {
                 match t {
                     Term::Variable(n) => Term::Variable(place_of(n, order)),

@@ -14,7 +14,7 @@ pub struct Short<T, const N: usize> {
     ghost full: { length items ≡ N },
 }
 
-// By hand: `Clone` is not derived for a generic struct with a ghost field.
+// By hand: a derive is refused for a generic struct with a ghost field.
 impl<T: Copy, const N: usize> Copy for Short<T, N> {}
 
 impl<T: Copy, const N: usize> Clone for Short<T, N> {

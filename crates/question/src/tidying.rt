@@ -24,6 +24,6 @@ impl Parts {
         ensures { of_parts result ≡ tidy (of_parts self) }
     {
         let rounded = self.rounded();
-        rounded.numbered(rounded.order().all())
+        rounded.numbered(&rounded.order())
     }
 }

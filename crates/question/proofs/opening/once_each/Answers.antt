@@ -8,7 +8,7 @@ loop-a-init c = (ap (λ (ys : List Atom). once_onto ys c.all-a-items.result.now)
 
 pub loop-a-preserved : goal.loop-a-preserved
 loop-a-preserved c =
-    (once_turn _ _ _ _ _ _ c.loop-a-test.true c.with_new-made.ensures c.loop-a.invariant.0, omega (arith, once_room _ _ _ c.with_new-made.ensures))
+    (once_turn _ _ _ _ _ _ c.loop-a-test.true c.keep.ensures c.loop-a.invariant.0, omega (arith, once_room _ _ _ c.keep.ensures))
 
 pub returns : goal.returns
 returns c = once_end _ _ _ _ c.all-a-items.ensures.same c.loop-a-test.false c.loop-a.invariant.0

@@ -10,10 +10,10 @@ f-requires g c = c.requires.each c.x-item.result (Memᴰ.cast c.x-item.is (membe
 
 pub loop-x-preserved : goal.loop-x-preserved
 loop-x-preserved g c = (
-  omega (arith, ap length c.with-made.ensures, length-append (listed c.loop-x.made) (c.f.result ∷ [])),
+  omega (arith, ap length c.push.ensures, length-append (listed c.loop-x.made) (c.f.result ∷ [])),
   λ h k. let x = c.x-item.result in
       let can = c.requires.each x (Memᴰ.cast c.x-item.is (member_at c.args.xs.now c.loop-x.x-index x c.loop-x-test.true)) in
-      map_turn x h c.args.xs.now c.loop-x.x-index _ _ c.f.result c.loop-x-test.true (c.loop-x.invariant.1 h k) (k x c.f.result can c.f.ensures ∙ ap h c.x-item.is) c.with-made.ensures,
+      map_turn x h c.args.xs.now c.loop-x.x-index _ _ c.f.result c.loop-x-test.true (c.loop-x.invariant.1 h k) (k x c.f.result can c.f.ensures ∙ ap h c.x-item.is) c.push.ensures,
 )
 
 pub returns : goal.returns
