@@ -3,7 +3,7 @@ use Rattle.distinct.proofs.Sameness.{Same, absent_not, all_put, different_repeat
 use Rattle.distinct.proofs.Told.{told_full, told_ok}
 use Rattle.distinct.specs.Items.{items}
 use Rattle.facts.proofs.Listing.{appended_added}
-use Rattle.facts.proofs.Places.{full, has_room, kept}
+use Rattle.facts.proofs.Places.{full, has_room, kept, untouched}
 use Rattle.facts.proofs.list.ListStoreStore.enter.Goals as goal
 use Rattle.facts.specs.Changes.{not_taken, out_of_range}
 use Rattle.facts.specs.Passes.{ListPlaces}
@@ -16,7 +16,7 @@ use Rattle.std.proofs.Common.{◌≡◌, true, false, Ok, length, sym, refl, ap,
 use mathlib.Core.Logic.{∥∥₁_map}
 
 pub returns-then-not-fits-clause-entered : goal.returns-then-not-fits-clause-entered
-returns-then-not-fits-clause-entered c = (out_of_range (λ h. false≢true (c.if-not-fits.ensures.1 h)), record { list = refl; takes = λ g. (λ h. h, λ h. h) })
+returns-then-not-fits-clause-entered c = (out_of_range (λ h. false≢true (c.if-not-fits.ensures.1 h)), untouched)
 
 pub invariant_of-self : goal.invariant_of-self
 invariant_of-self c =
