@@ -4,8 +4,7 @@ use Rattle.std.proofs.Math.ListN.{length-append}
 use mathlib.Core.List.{append-nil, append_assoc}
 use Rattle.std.proofs.Math.Logic.{inl, inr}
 use Rattle.std.proofs.Math.Path.{refl, ap, ap₂, subst}
-use Rattle.std.proofs.Common.{sym, ◌∙◌, add-one}
-use Rattle.std.proofs.Math.Nat.{add-zero}
+use Rattle.std.proofs.Common.{sym, ◌∙◌}
 use native.Mathlib.Omega.{arith}
 use Rattle.std.specs.List.{slice_get}
 use Rattle.std.proofs.lemmas.Bool.{cases_eq, cases_lt, false≢true}
@@ -63,14 +62,6 @@ module _ (p : ℕ → Bool) where
   pub tally_zero : tally p 0 ≡ 0
   unfolding tally
   tally_zero = refl
-
-  pub tally_more : (m : ℕ) → p m ≡ true → tally p (m + 1) ≡ tally p m + 1
-  unfolding tally
-  tally_more m e = ap (tally p) (add-one m) ∙ ap (λ (b : Bool). tally p m + cond b 1 0) e
-
-  pub tally_kept : (m : ℕ) → p m ≡ false → tally p (m + 1) ≡ tally p m
-  unfolding tally
-  tally_kept m e = ap (tally p) (add-one m) ∙ ap (λ (b : Bool). tally p m + cond b 1 0) e ∙ add-zero (tally p m)
 
   -- a number that passes has fewer before it than there are
   pub tally_le : (m d : ℕ) → tally p m ≤ tally p (m + d)

@@ -1,5 +1,5 @@
 -- Places where no two facts clash.
-use Rattle.std.proofs.Common.{◌≡◌, ℕ, List, Some, None, subst₂, arith}
+use Rattle.std.proofs.Common.{◌≡◌, ℕ, List, Some, subst₂}
 use Rattle.clash.specs.Searches.{CalmAt}
 use Rattle.std.specs.List.{slice_get}
 use Rattle.theory.specs.Clashes.{Clash}
@@ -8,13 +8,6 @@ use Rattle.vocabulary.specs.declared.rules.Family.{Family}
 use Rattle.vocabulary.specs.declared.rules.Rule.{Rule}
 
 module _ (family : Family) (rules : List Rule) (xs : List Fact) where
-  -- past the end nothing clashes
-  pub calm_past : (i j : ℕ) → slice_get xs j ≡ None → CalmAt family rules xs i j
-  calm_past i j none f g p q = absurd (let z : ◌≡◌ {A = ℕ} 0 1 = cc in omega arith)
-
-  pub past_calm : (i j : ℕ) → slice_get xs i ≡ None → CalmAt family rules xs i j
-  past_calm i j none f g p q = absurd (let z : ◌≡◌ {A = ℕ} 0 1 = cc in omega arith)
-
   -- two facts that do not clash
   pub calm_here : (i j : ℕ) (f g : Fact) → slice_get xs i ≡ Some f → slice_get xs j ≡ Some g → ¬ (Clash family rules f g) → CalmAt family rules xs i j
   calm_here i j f g p q calm f' g' p' q' c =

@@ -1,10 +1,9 @@
--- Rules and facts settle the verdict: at most one has its values.
-use Rattle.std.proofs.Common.{◌≡◌, ℕ, ◌<◌, List, Some, sym, refl, ap, subst, ap₂, inl, inr}
+-- Rules and facts settle the answer of the check: at most one has its values.
+use Rattle.std.proofs.Common.{◌≡◌, ℕ, ◌<◌, List, Some, None, Option, sym, refl, ap, subst, ap₂, inl, inr}
 use Rattle.clash.specs.Verdicts.{Checked, OneBlamed, Together, TwoBlamed}
-use Rattle.clash.specs.declared.check.Verdict.{Verdict}
-use Rattle.clash.specs.declared.check.Verdict.TheVariants.{Clear, Clashes}
 use Rattle.std.proofs.lemmas.Bool.{cases_order}
 use Rattle.std.specs.List.{slice_get}
+use Rattle.vocabulary.specs.declared.facts.Clash.{Clash}
 use Rattle.vocabulary.specs.declared.facts.Clash.TheVariants.{One, Two}
 use Rattle.vocabulary.specs.declared.facts.Fact.{Fact}
 use Rattle.vocabulary.specs.declared.rules.Rule.{Rule}
@@ -46,13 +45,13 @@ module _ (rules : List Rule) (xs : List Fact) where
       let same = one_fact h.first k.first f f' e h.at_first k.at_first in
       ap₂ Two same (seconds f g f' g' h k e same)
 
-  pub settled : (v w : Verdict) → Checked rules xs v → Checked rules xs w → w ≡ v
-  settled Clear Clear h k = refl
-  settled Clear (Clashes (One f)) h k = absurd (k.no_world h)
-  settled Clear (Clashes (Two f g)) h k = absurd (k.no_world h)
-  settled (Clashes (One f)) Clear h k = absurd (h.no_world k)
-  settled (Clashes (One f)) (Clashes (One g)) h k = ap (λ (x : Fact). Clashes (One x)) (one_one g f k h)
-  settled (Clashes (One f)) (Clashes (Two g g')) h k = absurd (h.alone (k.each_alone h.place f h.here))
-  settled (Clashes (Two f g)) Clear h k = absurd (h.no_world k)
-  settled (Clashes (Two f g)) (Clashes (One f')) h k = absurd (k.alone (h.each_alone k.place f' k.here))
-  settled (Clashes (Two f g)) (Clashes (Two f' g')) h k = ap Clashes (two_two f' g' f g k h)
+  pub settled : (v w : Option Clash) → Checked rules xs v → Checked rules xs w → w ≡ v
+  settled None None h k = refl
+  settled None (Some (One f)) h k = absurd (k.no_world h)
+  settled None (Some (Two f g)) h k = absurd (k.no_world h)
+  settled (Some (One f)) None h k = absurd (h.no_world k)
+  settled (Some (One f)) (Some (One g)) h k = ap (λ (x : Fact). Some (One x)) (one_one g f k h)
+  settled (Some (One f)) (Some (Two g g')) h k = absurd (h.alone (k.each_alone h.place f h.here))
+  settled (Some (Two f g)) None h k = absurd (h.no_world k)
+  settled (Some (Two f g)) (Some (One f')) h k = absurd (k.alone (h.each_alone k.place f' k.here))
+  settled (Some (Two f g)) (Some (Two f' g')) h k = ap Some (two_two f' g' f g k h)

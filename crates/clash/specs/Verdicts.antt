@@ -1,9 +1,8 @@
 -- What the check of rules and facts answers, in worlds.
-use Rattle.std.specs.Prelude.{◌≡◌, ℕ, ◌<◌, List, [], ◌∷◌, Some}
-use Rattle.clash.specs.declared.check.Verdict.{Verdict}
-use Rattle.clash.specs.declared.check.Verdict.TheVariants.{Clear, Clashes}
+use Rattle.std.specs.Prelude.{◌≡◌, ℕ, ◌<◌, List, [], ◌∷◌, Some, None, Option}
 use Rattle.std.specs.List.{slice_get}
 use Rattle.theory.specs.Worlds.{SiteWorld}
+use Rattle.vocabulary.specs.declared.facts.Clash.{Clash}
 use Rattle.vocabulary.specs.declared.facts.Clash.TheVariants.{One, Two}
 use Rattle.vocabulary.specs.declared.facts.Fact.{Fact}
 use Rattle.vocabulary.specs.declared.rules.Rule.{Rule}
@@ -36,12 +35,12 @@ pub record TwoBlamed (rules : List Rule) (xs : List Fact) (f g : Fact) : Type 0 
   pub lower_first : (k m : ℕ) (h h' : Fact) → k < first → slice_get xs k ≡ Some h → slice_get xs m ≡ Some h' → Together rules h h'
   pub lower_second : (m : ℕ) (h : Fact) → first < m → m < second → slice_get xs m ≡ Some h → Together rules f h
 
--- the answer of the check
-abbrev pub Checked : List Rule → List Fact → Verdict → Type 0
-Checked rules xs Clear = SiteWorld rules xs
-Checked rules xs (Clashes (One f)) = OneBlamed rules xs f
-Checked rules xs (Clashes (Two f g)) = TwoBlamed rules xs f g
+-- the answer of the check: none, or what is to blame
+abbrev pub Checked : List Rule → List Fact → Option Clash → Type 0
+Checked rules xs None = SiteWorld rules xs
+Checked rules xs (Some (One f)) = OneBlamed rules xs f
+Checked rules xs (Some (Two f g)) = TwoBlamed rules xs f g
 
 -- no other answer has its values
-abbrev pub Settled : List Rule → List Fact → Verdict → Type 0
-Settled rules xs r = (v : Verdict) → Checked rules xs v → v ≡ r
+abbrev pub Settled : List Rule → List Fact → Option Clash → Type 0
+Settled rules xs r = (v : Option Clash) → Checked rules xs v → v ≡ r

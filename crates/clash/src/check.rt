@@ -6,40 +6,27 @@ ghost use Rattle.std.specs.Option.{MatchOption};
 
 use crate::pairs::clashing;
 use book::book::Book;
+use facts::each::Facts;
 use facts::source::Source;
 use vocabulary::facts::{Clash, Fact};
 
-/// What the check finds.
-#[derive(Clone, Copy)]
-pub enum Verdict {
-    /// Rules and facts can be true together.
-    Clear,
-    /// They cannot, and these facts are to blame.
-    Clashes(Clash),
-}
-
-/// Whether the book's rules and the source's facts can be true together, and if not, which one or two facts are to blame.
-pub fn check<S: Source>(book: &Book, source: &S) -> Verdict
+/// The one or two facts that are to blame, if the book's rules and the source's facts cannot be true together.
+pub fn check<S: Source>(book: &Book, source: &S) -> Option<Clash>
     ensures checked { Checked book.now.rules.now (S.Source.facts source.now) result }
     ensures settled { Settled book.now.rules.now (S.Source.facts source.now) result }
 {
     if let Some(f) = first_alone(book, source) {
-        return Verdict::Clashes(Clash::One(f));
+        return Some(Clash::One(f));
     }
-    match first_pair(book, source) {
-        Some((f, g)) => Verdict::Clashes(Clash::Two(f, g)),
-        None => Verdict::Clear,
-    }
+    let (f, g) = first_pair(book, source)?;
+    Some(Clash::Two(f, g))
 }
 
 /// The first fact by place that clashes alone.
 fn first_alone<S: Source>(book: &Book, source: &S) -> Option<Fact>
     ensures { MatchOption result (NoneAlone book.now.family book.now.rules.now (S.Source.facts source.now)) (FirstAlone book.now.family book.now.rules.now (S.Source.facts source.now)) }
 {
-    for i in 0..source.count() {
-        let Some(f) = source.at(i) else {
-            continue;
-        };
+    for f in Facts::of(source) {
         if clashing(book, f, f) {
             return Some(f);
         }
@@ -51,16 +38,9 @@ fn first_alone<S: Source>(book: &Book, source: &S) -> Option<Fact>
 fn first_pair<S: Source>(book: &Book, source: &S) -> Option<(Fact, Fact)>
     ensures { MatchOption result (AllCalm book.now.family book.now.rules.now (S.Source.facts source.now)) (λ p. FirstPair book.now.family book.now.rules.now (S.Source.facts source.now) p.0 p.1) }
 {
-    let n = source.count();
     let mut blamed = None;
-    'outer: for i in 0..n {
-        let Some(f) = source.at(i) else {
-            continue;
-        };
-        for j in i + 1..n {
-            let Some(g) = source.at(j) else {
-                continue;
-            };
+    'outer: for (i, f) in Facts::of(source).enumerate() {
+        for g in Facts::from_place(source, i + 1) {
             if clashing(book, f, g) {
                 blamed = Some((f, g));
                 break 'outer;

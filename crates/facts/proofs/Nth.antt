@@ -1,6 +1,7 @@
 -- Places of a list by `nth`, which is `None` past the end.
-use Rattle.std.proofs.Common.{◌≡◌, ℕ, zero, suc, ◌<◌, ◌⊎◌, List, [], ◌∷◌, ◌++◌, length, Some, None, Option, sym, refl, ap, ◌∙◌, inl, inr, arith}
+use Rattle.std.proofs.Common.{◌≡◌, ℕ, zero, suc, ◌+◌, ◌<◌, ◌⊎◌, List, [], ◌∷◌, ◌++◌, length, drop, Some, None, Option, sym, refl, ap, ◌∙◌, inl, inr, arith}
 use Rattle.distinct.specs.Repeats.{Different}
+use Rattle.std.proofs.lemmas.List.{drop_all}
 use Rattle.std.proofs.lemmas.Option.{slice_get-get_or}
 use Rattle.std.specs.List.{slice_get, AllByRecursion}
 use mathlib.Core.List.{Memᴰ}
@@ -33,6 +34,19 @@ module _ {X : Type 0} where
   nth_push_cases (z ∷ zs) x zero y p = inl p
   nth_push_cases (z ∷ zs) x (suc k) y p =
       elim (nth_push_cases zs x k y p) [ inl h ↦ inl h | inr h ↦ inr (ap suc h.0, h.1) ]
+
+  -- what is left from a place on
+  pub nth_drop : (xs : List X) (k : ℕ) (x : X) → slice_get xs k ≡ Some x → drop k xs ≡ x ∷ drop (k + 1) xs
+  nth_drop [] k x p = absurd (none_some p)
+  nth_drop (y ∷ ys) zero x p = ap (λ (z : X). z ∷ ys) (some_inj p)
+  nth_drop (y ∷ ys) (suc k) x p =
+      let e : suc (k + 1) ≡ suc k + 1 = omega arith in
+      nth_drop ys k x p ∙ ap (λ (m : ℕ). x ∷ drop m (y ∷ ys)) e
+
+  pub nth_drop_none : (xs : List X) (k : ℕ) → slice_get xs k ≡ None → drop k xs ≡ []
+  nth_drop_none [] k p = drop_all k [] (omega arith)
+  nth_drop_none (y ∷ ys) zero p = absurd (none_some (sym p))
+  nth_drop_none (y ∷ ys) (suc k) p = nth_drop_none ys k p
 
   -- a member is what stands at a place
   pub member_nth : {x : X} {xs : List X} → Memᴰ x xs → (k : ℕ) × (slice_get xs k ≡ Some x)

@@ -1,4 +1,5 @@
 pub mod Changes
 pub mod Listings
 pub mod Passes
+pub mod Rests
 pub mod Rooms

@@ -2,6 +2,7 @@
 
 #![tactic(auto)]
 
+pub mod each;
 pub mod list;
 pub mod pass;
 pub mod source;

@@ -1,64 +1,69 @@
-use Rattle.clash.proofs.Places.{calm_here, calm_past, past_calm}
-use Rattle.facts.proofs.Nth.{nth_within}
-use Rattle.clash.proofs.check.first_pair.Goals as goal
+use Rattle.std.proofs.lemmas.Iterator.Consumers.{YieldsList-from_enumerate, YieldsList-from_first}
 use Rattle.std.proofs.lemmas.Bool.Decides.{not_from_Decides}
-use Rattle.std.specs.List.{slice_get}
-use Rattle.std.proofs.Common.{◌≡◌, Some, None, arith, below_more}
+use Rattle.std.proofs.lemmas.List.{length_push}
+use Rattle.std.proofs.Common.{ℕ, ◌+◌, ◌<◌, drop, length, refl, subst, arith, below_more, rules}
+use Rattle.clash.proofs.Places.{calm_here}
+use Rattle.clash.proofs.check.first_pair.Goals as goal
+use Rattle.clash.specs.Searches.{CalmAt}
+use Rattle.facts.proofs.Nth.{nth_within}
+use Rattle.facts.specs.Rests.{rest}
+use Rattle.facts.proofs.Rounds.{counted_end, counted_place, turn_place, turns_end}
 
-pub outer-preserved-in_default : goal.outer-preserved-in_default
-outer-preserved-in_default g c =
+pub loop-g-preserved : goal.loop-g-preserved
+loop-g-preserved g c =
     let book = c.args.book.now in
     let xs = g.S.Source.facts c.args.source.now in
-    let i = c.outer.i in
-    let none : slice_get xs i ≡ None = cc in
-    (c.outer.invariant.0, below_more _ _ c.outer.invariant.1 (λ m _. past_calm book.family book.rules.now xs i m none))
-
-pub loop-j-preserved-in_default-at : goal.loop-j-preserved-in_default-at
-loop-j-preserved-in_default-at g c =
-    let book = c.args.book.now in
-    let xs = g.S.Source.facts c.args.source.now in
-    let j = c.loop-j.j in
-    let none : slice_get xs j ≡ None = cc in
-    (c.loop-j.invariant.0, below_more _ _ c.loop-j.invariant.1 (λ _. calm_past book.family book.rules.now xs c.outer.i j none))
-
-pub loop-j-preserved : goal.loop-j-preserved
-loop-j-preserved g c =
-    let book = c.args.book.now in
-    let xs = g.S.Source.facts c.args.source.now in
-    let i = c.outer.i in
-    let j = c.loop-j.j in
+    let i = c.in-Some.i in
     let f = c.in-Some.f in
-    let h = c.in-Some-at.g in
-    let p : slice_get xs i ≡ Some f = cc in
-    let q : slice_get xs j ≡ Some h = cc in
-    let calm = not_from_Decides c.clashing.result c.clashing.ensures c.if-clashing.false in
-    (c.loop-j.invariant.0, below_more _ _ c.loop-j.invariant.1 (λ _. calm_here book.family book.rules.now xs i j f h p q calm))
+    let outer = YieldsList-from_enumerate {s = c.into_iter-i-iterator.result} (YieldsList-from_first (λ x. x) (rest g.S.Source.facts) xs (search rules)) (search rules) in
+    let inner = YieldsList-from_first (λ x. x) (rest g.S.Source.facts) {s = c.into_iter-g-iterator.result} (drop (i + 1) xs) (search rules) in
+    let p = counted_place xs outer c.outer.yielded _ c.outer.yielded_by _ c.next.new.self i f c.in-Some.is c.next.ensures.steps in
+    let h = c.in-Some-g.g in
+    let q = turn_place xs (i + 1) inner c.loop-g.yielded _ c.loop-g.yielded_by _ c.next-in-loop-g.new.self h c.in-Some-g.is c.next-in-loop-g.ensures.steps (i + 1 + length c.loop-g.yielded) refl in
+    let calm = calm_here book.family book.rules.now xs i (i + 1 + length c.loop-g.yielded) f h p.1 q (not_from_Decides c.clashing.result c.clashing.ensures c.if-clashing.false) in
+    (c.loop-g.invariant.0, λ m low. below_more _ _ c.loop-g.invariant.1 (λ _. calm) m (omega (arith, length_push c.loop-g.yielded h)))
 
 -- a row is done where its places are
 pub outer-preserved : goal.outer-preserved
 outer-preserved g c =
-    let xs = g.S.Source.facts c.args.source.now in (
-      c.loop-j.invariant.0,
-      below_more _ _ c.outer.invariant.1 (λ m low f h p q. let l = nth_within xs m _ q in c.loop-j.invariant.1 m (omega arith) low f h p q),
-    )
-
-pub returns-after-outer : goal.returns-after-outer
-returns-after-outer g c =
+    let book = c.args.book.now in
     let xs = g.S.Source.facts c.args.source.now in
-    simp c.outer.invariant.0 (λ k m low f h p q. let l = nth_within xs k _ p in c.outer.invariant.1 k (omega arith) m low f h p q)
+    let i = c.in-Some.i in
+    let f = c.in-Some.f in
+    let outer = YieldsList-from_enumerate {s = c.into_iter-i-iterator.result} (YieldsList-from_first (λ x. x) (rest g.S.Source.facts) xs (search rules)) (search rules) in
+    let inner = YieldsList-from_first (λ x. x) (rest g.S.Source.facts) {s = c.into_iter-g-iterator.result} (drop (i + 1) xs) (search rules) in
+    let p = counted_place xs outer c.outer.yielded _ c.outer.yielded_by _ c.next.new.self i f c.in-Some.is c.next.ensures.steps in
+    let end = turns_end xs (i + 1) inner c.loop-g.yielded _ c.loop-g.yielded_by _ c.next-in-loop-g.new.self c.in-None-g.is c.next-in-loop-g.ensures.steps in
+    let row : (m : ℕ) → i < m → CalmAt book.family book.rules.now xs i m =
+    λ m low x y at there. c.loop-g.invariant.1 m (omega (arith, nth_within xs m _ there)) low x y at there in
+    let row' = subst (λ k. (m : ℕ) → k < m → CalmAt book.family book.rules.now xs k m) p.0 row in
+    (c.loop-g.invariant.0, λ k low. below_more _ _ c.outer.invariant.1 row' k (omega (arith, length_push c.outer.yielded (i, f))))
+
+pub returns-in-None : goal.returns-in-None
+returns-in-None g c =
+    let xs = g.S.Source.facts c.args.source.now in
+    let outer = YieldsList-from_enumerate {s = c.into_iter-i-iterator.result} (YieldsList-from_first (λ x. x) (rest g.S.Source.facts) xs (search rules)) (search rules) in
+    let all = counted_end xs outer c.outer.yielded _ c.outer.yielded_by _ c.next.new.self c.in-None.is c.next.ensures.steps in
+    simp c.outer.invariant.0 (λ k m low f h p q. c.outer.invariant.1 k (omega (arith, nth_within xs k _ p)) m low f h p q)
 
 pub returns-then-clashing : goal.returns-then-clashing
 returns-then-clashing g c =
+    let book = c.args.book.now in
     let xs = g.S.Source.facts c.args.source.now in
-    let p : slice_get xs c.outer.i ≡ Some c.in-Some.f = cc in
-    let q : slice_get xs c.loop-j.j ≡ Some c.in-Some-at.g = cc in
+    let i = c.in-Some.i in
+    let f = c.in-Some.f in
+    let outer = YieldsList-from_enumerate {s = c.into_iter-i-iterator.result} (YieldsList-from_first (λ x. x) (rest g.S.Source.facts) xs (search rules)) (search rules) in
+    let inner = YieldsList-from_first (λ x. x) (rest g.S.Source.facts) {s = c.into_iter-g-iterator.result} (drop (i + 1) xs) (search rules) in
+    let p = counted_place xs outer c.outer.yielded _ c.outer.yielded_by _ c.next.new.self i f c.in-Some.is c.next.ensures.steps in
+    let h = c.in-Some-g.g in
+    let q = turn_place xs (i + 1) inner c.loop-g.yielded _ c.loop-g.yielded_by _ c.next-in-loop-g.new.self h c.in-Some-g.is c.next-in-loop-g.ensures.steps (i + 1 + length c.loop-g.yielded) refl in
     record {
-      first = c.outer.i;
-      second = c.loop-j.j;
+      first = i;
+      second = i + 1 + length c.loop-g.yielded;
       order = omega arith;
-      at_first = p;
+      at_first = p.1;
       at_second = q;
       clashes = c.clashing.ensures.0 c.if-clashing.true;
-      rows = c.outer.invariant.1;
-      row = c.loop-j.invariant.1;
+      rows = λ k low. c.outer.invariant.1 k (omega (arith, p.0));
+      row = c.loop-g.invariant.1;
     }

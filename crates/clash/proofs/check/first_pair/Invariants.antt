@@ -1,4 +1,4 @@
-use Rattle.std.proofs.Common.{◌≡◌, ℕ, ◌<◌, None}
+use Rattle.std.proofs.Common.{◌≡◌, ℕ, ◌+◌, ◌<◌, None, length}
 use Rattle.clash.proofs.check.first_pair.Given as goal
 use Rattle.clash.specs.Searches.{CalmAt}
 
@@ -6,9 +6,9 @@ use Rattle.clash.specs.Searches.{CalmAt}
 abbrev pub invariant-outer : goal.invariant-outer
 invariant-outer g l =
     let xs = g.S.Source.facts l.source in
-    (l.blamed ≡ None) × ((k : ℕ) → k < l.i → (m : ℕ) → k < m → CalmAt l.book.family l.book.rules.now xs k m)
+    (l.blamed ≡ None) × ((k : ℕ) → k < length l.yielded → (m : ℕ) → k < m → CalmAt l.book.family l.book.rules.now xs k m)
 
-abbrev pub invariant-loop-j : goal.invariant-loop-j
-invariant-loop-j g l =
+abbrev pub invariant-loop-g : goal.invariant-loop-g
+invariant-loop-g g l =
     let xs = g.S.Source.facts l.source in
-    (l.blamed ≡ None) × ((m : ℕ) → m < l.j → l.i < m → CalmAt l.book.family l.book.rules.now xs l.i m)
+    (l.blamed ≡ None) × ((m : ℕ) → m < l.i + 1 + length l.yielded → l.i < m → CalmAt l.book.family l.book.rules.now xs l.i m)
