@@ -41,6 +41,9 @@ rule_prop (Single d) = directed_prop d
 pub all_fit : (family : Family) (rules : List Rule) → ∥ AllByRecursion (Admitted family) rules ∥₁ → AllFit rules
 all_fit family rules h i r l = ∥∥₁_elim h (rule_prop (get_or rules i r)) (λ all. (All-get_or (Admitted family) rules i r l all).fits)
 
+pub fit_at : (rules : List Rule) → ∥ AllFit rules ∥₁ → (i : ℕ) (r : Rule) → i < length rules → RuleFits (get_or rules i r)
+fit_at rules h i r l = ∥∥₁_elim h (rule_prop (get_or rules i r)) (λ all. all i r l)
+
 -- ---- how many rules there are, by what lies behind them
 
 pub room_left : {A : Type 0} (n : ℕ) (xs : List A) → length xs ≡ 256 → drop n xs ≢ [] → length (take n xs) < 256

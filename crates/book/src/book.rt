@@ -2,14 +2,17 @@
 
 ghost use Rattle.book.specs.Answers.{Answered};
 ghost use Rattle.book.specs.Entries.{Admitted};
+ghost use Rattle.book.specs.Reach.{NodeFits, NodeStep};
 ghost use Rattle.book.specs.Tables.{HoldsClosure, PairOn};
 ghost use Rattle.distinct.specs.Repeats.{Different};
 ghost use Rattle.std.specs.Prelude.{◌≡◌, length, Decides};
 ghost use Rattle.theory.specs.Closure.{Excluded, classes, links};
 ghost use Rattle.theory.specs.Following.{Empty, Implied};
+ghost use Rattle.theory.specs.Reaching.{Reaches};
 ghost use Rattle.std.specs.List.{AllByRecursion};
 ghost use Rattle.vocabulary.specs.Ranges.{RuleFits};
 
+use crate::ranged::InRange;
 use crate::reach::{Node, reaches};
 use bits::relation::related;
 use vocabulary::basic::{Basic, Coded, Directed};
@@ -81,14 +84,22 @@ impl<'a> Book<'a> {
         ensures { Decides result (Implied self.now.family self.now.rules.now rule) }
     {
         match rule {
-            Rule::Within(b, c) => reaches(self.rules, Node::Class(b), Node::Class(c))
-                | self.empties(b),
+            Rule::Within(b, c) => self.reaches(Node::Class(b), Node::Class(c)) | self.empties(b),
             Rule::Apart(b, c) => self.classes_apart(b, c) | (self.empties(b) | self.empties(c)),
-            Rule::LinkWithin(d, e) => reaches(self.rules, Node::Link(d), Node::Link(e))
+            Rule::LinkWithin(d, e) => self.reaches(Node::Link(d), Node::Link(e))
                 | self.empties(Basic::Start(d)),
             Rule::LinkApart(d, e) => self.implies_apart(d, e),
             Rule::Single(d) => self.rules.contains(&rule) | self.empties(Basic::Start(d)),
         }
+    }
+
+    /// Whether the within rules lead from one node to another.
+    fn reaches(&self, from: Node, to: Node) -> bool
+        requires { (NodeFits from) × (NodeFits to) }
+        ensures { Decides result (Reaches (NodeStep self.now.rules.now) from to) }
+    {
+        let rules = InRange { all: self.rules };
+        reaches(rules, from, to)
     }
 
     /// Two links have no pair in common where they, their starts or their ends are apart, or one of them is empty.

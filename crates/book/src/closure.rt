@@ -1,12 +1,13 @@
 //! The exclusion closure of a book, found by letting every rule add what it gives until none adds anything.
 
 ghost use Rattle.bits.specs.Relations.{Inherits, Joins, On};
-ghost use Rattle.book.specs.Growth.{AllDone, AllFit, Always, Done, DoneFirst, EmptyKnown, EmptyKnownBelow, EndKnown, LinkKnown, Of, StartKnown, Went, tables};
+ghost use Rattle.book.specs.Growth.{AllDone, Always, Done, DoneFirst, EmptyKnown, EmptyKnownBelow, EndKnown, LinkKnown, Of, StartKnown, Went, tables};
 ghost use Rattle.book.specs.Tables.{HoldsClosure};
 ghost use Rattle.std.specs.Prelude.{◌≡◌, ◌*◌, ℕ, length, Decides};
 ghost use Rattle.vocabulary.specs.Ranges.{DirectedFits, RuleFits};
 ghost use mathlib.Core.List.{Memᴰ};
 
+use crate::ranged::InRange;
 use bits::relation::Relation;
 use std::marker::PhantomData;
 use vocabulary::basic::{Basic, Coded, Directed};
@@ -69,16 +70,17 @@ pub(crate) struct Closure<'a> {
     links: Apart<'a, Directed, 1>,
 }
 
+// Each step asks that its links are in range: a type of links in range is no plainer, since each arm that takes a rule apart would owe a proof to make one.
 impl<'a> Closure<'a> {
     /// The exclusion closure of the rules, in two tables of any content: rounds until one adds nothing.
     pub(crate) fn of(
         family: Family,
-        rules: &[Rule],
+        rules: InRange<'_>,
         basic: &'a mut [u64],
         linked: &'a mut [u64],
     ) -> Closure<'a>
-        requires { (AllFit rules.now) × ((length basic.old ≡ 256) × (length linked.old ≡ 64)) }
-        ensures { HoldsClosure family rules.now (tables result).0 (tables result).1 }
+        requires { (length basic.old ≡ 256) × (length linked.old ≡ 64) }
+        ensures { HoldsClosure family rules.entry.all.now (tables result).0 (tables result).1 }
     {
         let mut closure = Closure {
             classes: Apart::none(basic),
@@ -97,9 +99,8 @@ impl<'a> Closure<'a> {
     }
 
     /// One round: every rule, then every directed link.
-    fn round(&mut self, family: Family, rules: &[Rule]) -> bool
-        requires { AllFit rules.now }
-        ensures { Went (Of family rules.now) (AllDone family rules.now) result (tables self.old) (tables self.new) }
+    fn round(&mut self, family: Family, rules: InRange<'_>) -> bool
+        ensures { Went (Of family rules.entry.all.now) (AllDone family rules.entry.all.now) result (tables self.old) (tables self.new) }
     {
         let mut any = self.apply_all(rules);
         any |= self.spread_all(family);
@@ -107,12 +108,11 @@ impl<'a> Closure<'a> {
     }
 
     /// Every rule adds what it gives.
-    fn apply_all(&mut self, rules: &[Rule]) -> bool
-        requires { AllFit rules.now }
-        ensures { Went (λ _ all. all ≡ rules.now) (DoneFirst rules.now (length rules.now)) result (tables self.old) (tables self.new) }
+    fn apply_all(&mut self, rules: InRange<'_>) -> bool
+        ensures { Went (λ _ all. all ≡ rules.entry.all.now) (DoneFirst rules.entry.all.now (length rules.entry.all.now)) result (tables self.old) (tables self.new) }
     {
         let mut any = false;
-        for rule in rules {
+        for rule in rules.all {
             any |= self.apply(*rule);
         }
         any

@@ -11,6 +11,7 @@ ghost use Rattle.std.specs.Prelude.{◌≡◌, [], length};
 use crate::book::Book;
 use crate::closure::Closure;
 use crate::pass::Pass;
+use crate::ranged::InRange;
 use distinct::Distinct;
 use vocabulary::effects::Effect;
 use vocabulary::faults::Fault;
@@ -85,7 +86,8 @@ impl<'a> Draft<'a> {
             linked,
         } = self;
         let rules = rules.into_items();
-        let (basic, linked) = Closure::of(family, rules, basic, linked).into_words();
+        let in_range = InRange { all: rules };
+        let (basic, linked) = Closure::of(family, in_range, basic, linked).into_words();
         Book {
             family,
             rules,

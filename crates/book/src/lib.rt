@@ -6,4 +6,5 @@ pub mod book;
 mod closure;
 pub mod draft;
 pub mod pass;
+mod ranged;
 mod reach;

@@ -1,13 +1,13 @@
 //! What the within rules lead to: marks on basic classes and directed links, until no rule adds one.
 
 ghost use Rattle.bits.specs.Words.{bit};
-ghost use Rattle.book.specs.Growth.{AllFit};
 ghost use Rattle.book.specs.Reach.{Led, LedBy, LedFirst, NodeFits, NodeOn, NodeStep, Settled, Spreads, node_code};
 ghost use Rattle.std.specs.Prelude.{◌≡◌, length, Decides};
 ghost use Rattle.theory.specs.Reaching.{Reaches};
 ghost use Rattle.vocabulary.specs.Ranges.{DirectedFits, RuleFits};
 ghost use mathlib.Core.List.{Memᴰ};
 
+use crate::ranged::InRange;
 use bits::table::{Bits, get};
 use vocabulary::basic::{Basic, Coded, Directed};
 use vocabulary::rules::Rule;
@@ -38,6 +38,7 @@ struct Marks<'a> {
     ghost sized: { length bits.words.now ≡ 3 },
 }
 
+// Each step asks that its nodes are in range: a type of nodes in range is no plainer, since each arm that takes a rule apart would owe a proof to make one.
 impl<'a> Marks<'a> {
     /// A mark on one node alone, in words of any content.
     fn on(words: &'a mut [u64], n: Node) -> Marks<'a>
@@ -99,30 +100,28 @@ impl<'a> Marks<'a> {
     }
 
     /// Lets every rule lead on once.
-    fn lead_all(&mut self, rules: &[Rule]) -> bool
-        requires { AllFit rules.now }
-        ensures { Spreads (λ all. all ≡ rules.now) (LedFirst rules.now (length rules.now)) result self.old.bits.words.now self.new.bits.words.now }
+    fn lead_all(&mut self, rules: InRange<'_>) -> bool
+        ensures { Spreads (λ all. all ≡ rules.entry.all.now) (LedFirst rules.entry.all.now (length rules.entry.all.now)) result self.old.bits.words.now self.new.bits.words.now }
     {
         let mut any = false;
-        for rule in rules {
+        for rule in rules.all {
             any |= self.lead_by(*rule);
         }
         any
     }
 
     /// Lets all rules lead on until none leads to anything new.
-    fn settle(&mut self, rules: &[Rule])
-        requires { AllFit rules.now }
-        ensures { Settled rules.now self.old.bits.words.now self.new.bits.words.now }
+    fn settle(&mut self, rules: InRange<'_>)
+        ensures { Settled rules.entry.all.now self.old.bits.words.now self.new.bits.words.now }
     {
         while self.lead_all(rules) {}
     }
 }
 
 /// Whether the within rules lead from one node to another, in any number of steps or none.
-pub(crate) fn reaches(rules: &[Rule], from: Node, to: Node) -> bool
-    requires { (AllFit rules.now) × ((NodeFits from) × (NodeFits to)) }
-    ensures { Decides result (Reaches (NodeStep rules.now) from to) }
+pub(crate) fn reaches(rules: InRange<'_>, from: Node, to: Node) -> bool
+    requires { (NodeFits from) × (NodeFits to) }
+    ensures { Decides result (Reaches (NodeStep rules.entry.all.now) from to) }
 {
     let mut words = [0u64; 3];
     let mut marks = Marks::on(&mut words, from);

@@ -3,4 +3,4 @@ use Rattle.book.specs.Growth.{DoneFirst, Went, tables}
 use Rattle.std.proofs.Common.{◌≡◌}
 
 abbrev pub invariant-loop-rule : goal.invariant-loop-rule
-invariant-loop-rule l = Went (λ _ all. all ≡ l.rules) (DoneFirst l.rules l.rule-index) l.any (tables l.initial.self) (tables l.self)
+invariant-loop-rule l = Went (λ _ all. all ≡ l.rules.all.now) (DoneFirst l.rules.all.now l.rule-index) l.any (tables l.initial.self) (tables l.self)

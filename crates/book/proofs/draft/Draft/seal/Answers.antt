@@ -11,10 +11,10 @@ use Rattle.vocabulary.specs.declared.rules.Family.{Family}
 use Rattle.vocabulary.specs.declared.rules.Rule.{Rule}
 use mathlib.Core.Logic.{∥∥₁_map}
 
-pub of-requires : goal.of-requires
-of-requires c =
+pub invariant_of-in_range : goal.invariant_of-in_range
+invariant_of-in_range c =
     let s = c.args.self in
-    (subst AllFit (sym c.into_items-rules.ensures) (all_fit s.family (items s.rules) s.admitted), (s.sized.1, s.sized.2))
+    record { fit = ∣ subst AllFit (sym c.into_items-rules.ensures) (all_fit s.family (items s.rules) s.admitted) ∣₁ }
 
 -- the tables of the book are those that the closure was found in
 sealed_tables : {family : Family} {rules items : List Rule} {b b' l l' : List ℕ} → rules ≡ items → b' ≡ b → l' ≡ l → HoldsClosure family rules b l → HoldsClosure family items b' l'
