@@ -1,9 +1,8 @@
 //! A question as it is put, and the tests that it has to pass.
 
-ghost use Rattle.std.specs.Prelude.{◌≡◌, ◌<◌, ◌≤◌, map, length, Decides};
+ghost use Rattle.std.specs.Prelude.{◌≡◌, ◌≤◌, map, length, Decides};
 ghost use Rattle.question.specs.Asked.{AtomInRange, AtomNumbered, Bound, InRange, Numbered, Recorded, Shaped, TermInRange, TermNumbered, Tested, asked_atom, asked_term};
 ghost use Rattle.question.specs.Shorts.{listed};
-ghost use Rattle.std.specs.List.{AllByRecursion};
 ghost use Rattle.vocabulary.specs.declared.questions.Term.TheVariants.{Variable};
 
 use crate::counts::occurrences_in;
