@@ -1,10 +1,11 @@
 -- The table is its own list of work: what one step makes of the questions before a place is in it.
-use Rattle.std.proofs.Common.{◌≡◌, ℕ, zero, suc, ◌+◌, ◌<◌, ◌≤◌, List, [], ◌∷◌, ◌++◌, map, length, get_or, take, drop, Err, Result, sym, refl, ap, ◌∙◌, subst, ⊎_elim, append-nil, arith, length-append, take_all}
+use Rattle.std.proofs.Common.{◌≡◌, ℕ, zero, suc, ◌+◌, ◌<◌, ◌≤◌, List, [], ◌∷◌, ◌++◌, map, length, get_or, take, drop, Some, None, Option, Err, Result, sym, refl, ap, ◌∙◌, subst, ⊎_elim, append-nil, arith, length-append, take_all}
 use Rattle.distinct.proofs.Members.{member_at}
 use Rattle.distinct.proofs.Fronts.{count_within, take_count}
 use Rattle.distinct.specs.Items.{items, spare}
 use Rattle.distinct.specs.Repeats.{NoRepeats}
 use Rattle.distinct.specs.declared.Distinct.{Distinct}
+use Rattle.question.proofs.Exact.{some_none, some_same}
 use Rattle.question.proofs.Stepping.{next_step, step_next}
 use Rattle.question.specs.Enumerations.{AllRewritings, Different, Enumerated, MoreRewritings}
 use Rattle.question.specs.Growth.{Filled, Grown, Next, Overfull, Same, rows}
@@ -13,12 +14,15 @@ use Rattle.question.specs.Work.{Worked, Working}
 use Rattle.question.specs.declared.record.Record.{Record}
 use Rattle.std.proofs.lemmas.List.{drop-drop, get_or-map, length-map, take-append-drop, take_more}
 use Rattle.std.proofs.lemmas.Bool.{false≢true}
+use Rattle.std.specs.Slice.{IsItemAt}
+use Rattle.std.specs.Option.{option_copied}
 use Rattle.theory.specs.Questions.{Query}
 use Rattle.theory.specs.Rewritings.{OneStep, Rewriting, itself, onward}
 use Rattle.theory.specs.Tidying.{tidy}
 use Rattle.vocabulary.specs.Faults.{number}
 use Rattle.vocabulary.specs.declared.faults.Fault.{Fault}
 use Rattle.vocabulary.specs.declared.rules.Rule.{Rule}
+use denote.Ref.{Bor}
 use lib.Seq.{take-append-le}
 use mathlib.Core.List.{Memᴰ}
 use native.Mathlib.Nat.{sub-zero}
@@ -74,9 +78,16 @@ turn e d k r lt is =
       front = take_more (rows d) k (query e) (omega arith) ∙ ap (λ (x : Query). take k (rows d) ++ x ∷ []) (sym at);
     }
 
--- the record that was read
-pub item_is : (rs is : List Record) (k : ℕ) (r : Record) → rs ≡ is → r ≡ get_or rs k r → query r ≡ query (get_or is k r)
-item_is rs is k r e f = ap query (f ∙ ap (λ (xs : List Record). get_or xs k r) e)
+-- the record that was read, or that there is none
+pub read_at : (rs is : List Record) (k : ℕ) (o : Option (Bor Record)) {c : Option Record} {r : Record} → rs ≡ is → IsItemAt rs k o → c ≡ option_copied o → c ≡ Some r → (k < length is) × (query r ≡ query (get_or is k r))
+read_at rs is k None e h f g = absurd (some_none (sym g ∙ f))
+read_at rs is k (Some b) {r = r} e h f g =
+    let (low, at) = h.3 in
+    subst (λ (xs : List Record). (k < length xs) × (query r ≡ query (get_or xs k r))) e (low, ap query (sym (some_same (sym f ∙ g)) ∙ at r))
+
+pub read_past : (rs is : List Record) (k : ℕ) (o : Option (Bor Record)) {c : Option Record} → rs ≡ is → IsItemAt rs k o → c ≡ option_copied o → c ≡ None → length is ≤ k
+read_past rs is k None e h f g = subst (λ (xs : List Record). length xs ≤ k) e h.3
+read_past rs is k (Some b) e h f g = absurd (some_none (sym f ∙ g))
 
 -- what the step made, if it is in the table, is a rewriting
 step_sound : (rules : List Rule) (q : Query) (d t : Distinct Record) (r : Query) → ((x : Query) → Memᴰ x (rows d) → Rewriting rules q x) → Memᴰ r (rows d) →

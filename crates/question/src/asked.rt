@@ -1,9 +1,8 @@
 //! A question as it is put, and the tests that it has to pass.
 
-ghost use Rattle.std.specs.Prelude.{◌≡◌, ◌<◌, ◌≤◌, map, length, Decides};
+ghost use Rattle.std.specs.Prelude.{◌≡◌, ◌≤◌, map, length, Decides};
 ghost use Rattle.question.specs.Asked.{AtomInRange, AtomNumbered, Bound, InRange, Numbered, Recorded, Shaped, TermInRange, TermNumbered, Tested, asked_atom, asked_term};
 ghost use Rattle.question.specs.Shorts.{listed};
-ghost use Rattle.std.specs.List.{AllByRecursion};
 ghost use Rattle.vocabulary.specs.declared.questions.Term.TheVariants.{Variable};
 
 use crate::counts::occurrences_in;
@@ -55,12 +54,14 @@ impl AskedTerm {
             AskedTerm::Named(_) => true,
         }
     }
+}
 
-    /// The term that is worked on.
-    fn term(self) -> Term
-        ensures { result ≡ asked_term self }
-    {
-        match self {
+/// The term that is worked on.
+impl From<AskedTerm> for Term {
+    ghost from_gives = { λ asked term. term ≡ asked_term asked };
+
+    fn from(asked: AskedTerm) -> Term {
+        match asked {
             AskedTerm::Variable(n) => Term::Variable(n),
             AskedTerm::Named(a) => Term::Constant(a),
         }
@@ -87,14 +88,16 @@ impl AskedAtom {
             AskedAtom::Linked(_, t, u) => t.numbered() && u.numbered(),
         }
     }
+}
 
-    /// The atom that is worked on.
-    fn atom(self) -> Atom
-        ensures { result ≡ asked_atom self }
-    {
-        match self {
-            AskedAtom::InClass(c, t) => Atom::IsIn(c, t.term()),
-            AskedAtom::Linked(l, t, u) => Atom::Joins(l, t.term(), u.term()),
+/// The atom that is worked on.
+impl From<AskedAtom> for Atom {
+    ghost from_gives = { λ asked atom. atom ≡ asked_atom asked };
+
+    fn from(asked: AskedAtom) -> Atom {
+        match asked {
+            AskedAtom::InClass(c, t) => Atom::IsIn(c, t.into()),
+            AskedAtom::Linked(l, t, u) => Atom::Joins(l, t.into(), u.into()),
         }
     }
 }
@@ -134,7 +137,7 @@ impl Question<'_> {
         requires { length self.now.head.now ≤ 4 }
         ensures { listed result ≡ map Variable self.now.head.now }
     {
-        Short::mapped(self.head, |n| Term::Variable(n))
+        Short::mapped(self.head, Term::Variable)
     }
 
     /// The atoms that are worked on.
@@ -142,7 +145,7 @@ impl Question<'_> {
         requires { length self.now.atoms.now ≤ 6 }
         ensures { listed result ≡ map asked_atom self.now.atoms.now }
     {
-        Short::mapped(self.atoms, |a| a.atom())
+        Short::mapped(self.atoms, Atom::from)
     }
 
     /// The record of the question, or the fault: the shape goes before the variables, and these before the head.

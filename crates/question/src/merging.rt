@@ -33,8 +33,7 @@ fn unified(t: Term, u: Term) -> Option<Unifier>
     ensures { result ≡ unify t u }
 {
     match (t, u) {
-        (Term::Open, _) => Some(Unifier::Trivial),
-        (_, Term::Open) => Some(Unifier::Trivial),
+        (Term::Open, _) | (_, Term::Open) => Some(Unifier::Trivial),
         (Term::Variable(m), Term::Variable(n)) => if m < n {
             Some(Unifier::Binds(n, Term::Variable(m)))
         } else {
@@ -42,7 +41,7 @@ fn unified(t: Term, u: Term) -> Option<Unifier>
         },
         (Term::Variable(m), Term::Constant(a)) => Some(Unifier::Binds(m, Term::Constant(a))),
         (Term::Constant(a), Term::Variable(n)) => Some(Unifier::Binds(n, Term::Constant(a))),
-        (Term::Constant(a), Term::Constant(b)) => if a.0 == b.0 {
+        (Term::Constant(a), Term::Constant(b)) => if a == b {
             Some(Unifier::Trivial)
         } else {
             None
@@ -102,8 +101,8 @@ fn merge(a: Atom, b: Atom) -> Option<Merger>
     ensures exact { MergesAs a b result }
 {
     match (a, b) {
-        (Atom::IsIn(c, t), Atom::IsIn(d, u)) if c.0 == d.0 => merge_classes(c, t, u),
-        (Atom::Joins(l, t, u), Atom::Joins(m, v, w)) if l.0 == m.0 => merge_links(l, t, u, v, w),
+        (Atom::IsIn(c, t), Atom::IsIn(d, u)) if c == d => merge_classes(c, t, u),
+        (Atom::Joins(l, t, u), Atom::Joins(m, v, w)) if l == m => merge_links(l, t, u, v, w),
         _ => None,
     }
 }

@@ -35,8 +35,7 @@ fn put_onward(table: &mut Distinct<Record>, rules: &[Rule]) -> Result<(), Fault>
 {
     // The table grows meanwhile, so no iterator can hold it: its places are counted.
     let mut done = 0;
-    while done < table.len() {
-        let next = table.items()[done];
+    while let Some(next) = table.items().get(done).copied() {
         put_next(table, rules, &next.parts)?;
         done += 1;
     }

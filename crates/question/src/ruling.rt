@@ -49,17 +49,15 @@ pub(crate) fn becomes(rule: Rule, a: Atom) -> Option<Atom>
     ensures exact { Made rule a result }
 {
     match (rule, a) {
-        (Rule::Within(b, Basic::Named(c)), Atom::IsIn(d, t)) if c.0 == d.0 => Some(concerning(
-            b, t,
-        )),
-        (Rule::Within(b, Basic::Start(Directed::Forward(k))), Atom::Joins(l, t, u)) if k.0 == l.0 =>
+        (Rule::Within(b, Basic::Named(c)), Atom::IsIn(d, t)) if c == d => Some(concerning(b, t)),
+        (Rule::Within(b, Basic::Start(Directed::Forward(k))), Atom::Joins(l, t, u)) if k == l =>
             if_open(u, concerning(b, t)),
-        (Rule::Within(b, Basic::Start(Directed::Backward(k))), Atom::Joins(l, t, u))
-            if k.0 == l.0 => if_open(t, concerning(b, u)),
-        (Rule::LinkWithin(d, Directed::Forward(k)), Atom::Joins(l, t, u)) if k.0 == l.0 => Some(
-            linking(d, t, u),
-        ),
-        (Rule::LinkWithin(d, Directed::Backward(k)), Atom::Joins(l, t, u)) if k.0 == l.0 => Some(
+        (Rule::Within(b, Basic::Start(Directed::Backward(k))), Atom::Joins(l, t, u)) if k == l =>
+            if_open(t, concerning(b, u)),
+        (Rule::LinkWithin(d, Directed::Forward(k)), Atom::Joins(l, t, u)) if k == l => Some(linking(
+            d, t, u,
+        )),
+        (Rule::LinkWithin(d, Directed::Backward(k)), Atom::Joins(l, t, u)) if k == l => Some(
             linking(d, u, t),
         ),
         _ => None,
