@@ -3,7 +3,7 @@
 
 #![tactic(auto)]
 
-use script::report::Report;
+use script::offer::Offer;
 use script::script::run;
 use std::alloc::{AllocError, Global};
 
@@ -21,7 +21,7 @@ fn main(rt: HostRuntime) -> anyhow::Result<()> {
          follows 0 apart 2\nseal\nfamily 1\nseal\n",
         "store list 128\nenter c5(7)\nenter c5\nstore bits\nfamily 0\nlist\nseal\nseal\nlist\n",
     ] {
-        let report = answers(heap, text)?;
+        let report = run(heap, text, Offer::Facts)?;
         rt.print(report.text.as_str())?;
         let failed = report.failed;
         println!(rt; "failed: {failed}\n")?;
@@ -30,12 +30,6 @@ fn main(rt: HostRuntime) -> anyhow::Result<()> {
         rt.print(crowd(heap, store)?.as_str())?;
     }
     Ok(())
-}
-
-fn answers(heap: Global, text: &str) -> Result<Report, AllocError> {
-    let mut report = Report::new(heap);
-    run(heap, text, &mut report)?;
-    Ok(report)
 }
 
 /// Fills a store with 4,096 facts and goes on: how many entries were taken, and the answers to the lines after them.
@@ -50,7 +44,7 @@ fn crowd(heap: Global, store: &str) -> Result<String, AllocError> {
         "\nenter l1(0,0)\nenter c0(0)\nenter l0(63,63)\nenter l0(64,1024)\nwithdraw l1(0,0)\n\
          withdraw l0(0,1)\nenter l1(0,0)\nenter l0(0,1)\nwithdraw l1(0,0)\nenter l0(0,1)\n",
     )?;
-    let report = answers(heap, text.as_str())?;
+    let report = run(heap, text.as_str(), Offer::Facts)?;
     let mut told = String::from_str(heap, store)?;
     let mut taken = 0usize;
     for (i, line) in report.text.lines().enumerate() {
