@@ -77,7 +77,7 @@ impl Making {
 
 /// A rule by the codes that stand in it.
 #[derive(Clone, Copy)]
-pub(crate) enum Written {
+pub enum Written {
     Within(u8, u8),
     Apart(u8, u8),
     LinkWithin(u8, u8),

@@ -2,7 +2,7 @@
 
 #![tactic(auto)]
 
-mod calls;
+pub mod calls;
 mod closure;
 mod expected;
 mod notation;

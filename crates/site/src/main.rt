@@ -4,6 +4,8 @@
 
 #![tactic(auto)]
 
+mod reading;
+
 use script::offer::Offer;
 use script::program::answer_all;
 
