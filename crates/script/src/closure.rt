@@ -26,7 +26,7 @@ pub(crate) fn answer(line: Line, book: Book, report: &mut Report) -> Result<(), 
     report.text.push('\n')
 }
 
-/// Writes the pairs that are kept apart by their codes, the smaller first, each behind a blank and a sign.
+/// Writes the pairs that are kept apart by their codes, which go up from 0: the smaller first, each behind a blank and a sign.
 fn pairs<T: Coded + TryFrom<u8, Error = Fault>, F: Fn(T, T) -> bool>(
     sign: &str,
     apart: F,
@@ -35,11 +35,15 @@ fn pairs<T: Coded + TryFrom<u8, Error = Fault>, F: Fn(T, T) -> bool>(
     requires { F.IsAlwaysCallable apart }
 {
     for a in 0..=255u8 {
+        let Ok(first) = T::try_from(a) else {
+            break;
+        };
         for b in a..=255u8 {
-            if let (Ok(first), Ok(second)) = (T::try_from(a), T::try_from(b)) {
-                if apart(first, second) {
-                    write!(out, " {sign}{a}-{b}")?;
-                }
+            let Ok(second) = T::try_from(b) else {
+                break;
+            };
+            if apart(first, second) {
+                write!(out, " {sign}{a}-{b}")?;
             }
         }
     }

@@ -23,8 +23,7 @@ fn main(rt: HostRuntime) -> anyhow::Result<()> {
     ] {
         let report = run(heap, text, Offer::Facts)?;
         rt.print(report.text.as_str())?;
-        let failed = report.failed;
-        println!(rt; "failed: {failed}\n")?;
+        println!(rt; "failed: {}\n", report.failed)?;
     }
     for store in ["store list 4096", "store bits 64", "store bits 120"] {
         rt.print(crowd(heap, store)?.as_str())?;
@@ -46,14 +45,11 @@ fn crowd(heap: Global, store: &str) -> Result<String, AllocError> {
     )?;
     let report = run(heap, text.as_str(), Offer::Facts)?;
     let mut told = String::from_str(heap, store)?;
-    let mut taken = 0usize;
-    for (i, line) in report.text.lines().enumerate() {
-        if i > 4096 {
-            write!(told, "\n  {line}")?;
-        } else if line.ends_with("=> 1") {
-            taken = taken.saturating_add(1);
-        }
+    for line in report.text.lines().skip(4097) {
+        write!(told, "\n  {line}")?;
     }
+    let entries = report.text.lines().take(4097);
+    let taken = entries.filter(|line| line.ends_with("=> 1")).count();
     write!(told, "\n  taken before: {taken}\n")?;
     Ok(told)
 }
