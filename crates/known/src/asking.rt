@@ -8,18 +8,16 @@ use book::pass::Pass;
 use question::asked::Question;
 use question::record::Record;
 use vocabulary::basic::Directed;
+use vocabulary::faults::Fault;
 use vocabulary::numbers::Link;
 use vocabulary::rules::Rule;
 
-/// Enters the rules, and says whether all of them were taken.
-fn enter_all(draft: &mut Draft, rules: &[Rule]) -> bool {
+/// Enters the rules, until one is refused.
+fn enter_all(draft: &mut Draft, rules: &[Rule]) -> Result<(), Fault> {
     for rule in rules {
-        match draft.enter(*rule) {
-            Ok(_) => {}
-            Err(_) => return false,
-        }
+        draft.enter(*rule)?;
     }
-    true
+    Ok(())
 }
 
 /// Makes a book of family R and asks it for the rewritings, in so many places.
@@ -36,9 +34,7 @@ pub(crate) fn ask(
         return Err(anyhow!("no draft can be opened"));
     };
     let mut draft = Draft::open(pass, &mut entered, &mut basic, &mut linked);
-    if !enter_all(&mut draft, rules) {
-        return Err(anyhow!("a rule is refused"));
-    }
+    enter_all(&mut draft, rules).map_err(|_| anyhow!("a rule is refused"))?;
     let book = draft.seal();
     answer(rt, &book, question, places)
 }
@@ -48,8 +44,7 @@ fn answer(rt: &HostRuntime, book: &Book, question: Question, places: usize) -> a
     let record = match question.test() {
         Ok(record) => record,
         Err(fault) => {
-            let n = u8::from(fault);
-            println!(rt; "fault {n}")?;
+            println!(rt; "fault {}", u8::from(fault))?;
             return Ok(());
         }
     };
@@ -60,8 +55,7 @@ fn answer(rt: &HostRuntime, book: &Book, question: Question, places: usize) -> a
             print_sorted(rt, &table, count)
         }
         Err(fault) => {
-            let n = u8::from(fault);
-            println!(rt; "fault {n} with {places} places")?;
+            println!(rt; "fault {} with {places} places", u8::from(fault))?;
             print_sorted(rt, &table, places)
         }
     }
@@ -71,8 +65,7 @@ fn answer(rt: &HostRuntime, book: &Book, question: Question, places: usize) -> a
 fn print_sorted(rt: &HostRuntime, table: &[Record], count: usize) -> anyhow::Result<()> {
     let mut lines = Vec::new(rt.alloc());
     for record in table.iter().take(count) {
-        let shown = Shown(record);
-        lines.push(format!(in rt.alloc(); "{shown}")?)?;
+        lines.push(format!(in rt.alloc(); "{}", Shown(record))?)?;
     }
     lines.sort()?;
     for line in lines.iter() {

@@ -30,7 +30,8 @@ impl Stock {
         })
     }
 
-    /// Enters the kept facts in a store that was made anew, in the order in which they were listed.
+    /// Enters the kept facts in a store that was made anew, in the order in which they were listed. One of the same make took
+    /// them so before.
     pub(crate) fn restore<S: Store>(&self, store: &mut S) {
         for fact in self.facts.as_slice() {
             let _ = store.enter(*fact);
@@ -50,7 +51,9 @@ fn try_out(heap: Global, making: Making) -> Result<(), Refusal>
 }
 
 /// The facts of a store, in its order.
-pub(crate) fn listed<S: Source>(heap: Global, store: &S) -> Result<Vec<Fact>, AllocError> {
+pub(crate) fn listed<S: Source>(heap: Global, store: &S) -> Result<Vec<Fact>, AllocError>
+    ensures { IfOk result (λ list. list.items ≡ S.facts store.now) }
+{
     let mut facts = Vec::new(heap);
     for place in 0..store.count() {
         if let Some(fact) = store.at(place) {
