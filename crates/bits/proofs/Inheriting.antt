@@ -1,12 +1,13 @@
 -- What setting bits does to a table as a relation.
-use Rattle.std.proofs.Common.{◌≡◌, ℕ, ◌+◌, ◌*◌, ◌/◌, ◌%◌, ◌<◌, Bool, true, false, ◌||◌, ◌⊎◌, List, length, replicate, sym, refl, ap, ◌∙◌, subst, inl, inr, arith}
+use Rattle.std.proofs.Common.{◌≡◌, ℕ, zero, suc, ◌+◌, ◌*◌, ◌/◌, ◌%◌, ◌<◌, Bool, true, false, ◌||◌, ◌==◌, ◌⊎◌, List, [], ◌∷◌, length, replicate, sym, refl, ap, ◌∙◌, subst, inl, inr, arith}
 use Rattle.bits.proofs.Counting.{marked_le, marked_lt}
 use Rattle.bits.proofs.Places.{pair_bit, place_same, place_inside}
 use Rattle.bits.proofs.Words.{bit_of_or, bit_zeros}
 use Rattle.bits.specs.Relations.{pair, On, Symmetric, Joined, Inherited, base, flip, pass, Grows, Covers}
 use Rattle.bits.specs.Words.{Marked, bit_of, word}
-use Rattle.std.proofs.lemmas.Bool.{cases_eq, cases_Bool, false≢true, true≢false, or_cases, or_left, or_parts}
+use Rattle.std.proofs.lemmas.Bool.{cases_eq, cases_Bool, false≢true, true≢false, or_cases, or_left, or_parts, and_parts, eqb-true}
 use Rattle.std.specs.Int.Bits.{bit_or}
+use Rattle.std.specs.List.{list_all, zip}
 
 -- a table of zeros relates nothing
 pub pair_zeros : (stride n a b : ℕ) → pair stride (replicate n 0) a b ≡ false
@@ -178,3 +179,10 @@ row_covers stride t from to same h k l o =
       column = l;
       set = ap (λ (w : ℕ). bit_of w (k % 64)) (sym (same (k / 64) j)) ∙ bit_of_or x y (k % 64) ∙ or_left (bit_of x (k % 64)) (bit_of y (k % 64)) o.set;
     }
+
+-- two rows of which every pair of words passed the test
+pub zipped_all : (xs ys : List ℕ) → true ≡ list_all (λ (p : ℕ × ℕ). bit_or p.0 p.1 == p.1) (zip xs ys) → (j : ℕ) → j < length xs → j < length ys → bit_or (word xs j) (word ys j) ≡ word ys j
+zipped_all [] ys e j h k = absurd (omega arith)
+zipped_all (x ∷ xs) [] e j h k = absurd (omega arith)
+zipped_all (x ∷ xs) (y ∷ ys) e zero h k = eqb-true (bit_or x y) y (and_parts (bit_or x y == y) _ (sym e)).0
+zipped_all (x ∷ xs) (y ∷ ys) e (suc j) h k = zipped_all xs ys (sym (and_parts (bit_or x y == y) _ (sym e)).1) j (omega arith) (omega arith)

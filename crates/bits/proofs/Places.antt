@@ -1,8 +1,8 @@
 -- Rows and columns of a table, and what one bit that is set changes of them.
-use Rattle.std.proofs.Common.{◌≡◌, ℕ, ◌+◌, ◌*◌, ◌/◌, ◌<◌, List, sym, ap, ◌∙◌, ap₂, mul_assoc, mul_comm, arith}
+use Rattle.std.proofs.Common.{◌≡◌, ℕ, ◌+◌, ◌*◌, ◌/◌, ◌<◌, ◌≤◌, List, sym, ap, ◌∙◌, ap₂, mul_assoc, mul_comm, arith}
 use Rattle.bits.specs.Relations.{pair}
 use Rattle.bits.specs.Words.{bit, bit_of, word}
-use Rattle.std.proofs.lemmas.Nat.{div-mul-add, mul-add-lt}
+use Rattle.std.proofs.lemmas.Nat.{div-mul-add, mul-add-lt, mul-le}
 
 -- the bit of row a and column b has the number 64 * (stride * a) + b
 pub pair_bit : (stride : ℕ) (t : List ℕ) (a b : ℕ) → pair stride t a b ≡ bit t (64 * (stride * a) + b)
@@ -26,3 +26,7 @@ pub place_inside : (stride a b : ℕ) → a < 64 * stride → b < 64 * stride �
 place_inside stride a b ha hb =
     let square : 64 * stride * (64 * stride) ≡ 64 * (64 * (stride * stride)) = omega (arith, turned stride (64 * stride), turned stride stride, mul_assoc 64 stride (64 * stride), mul_assoc stride 64 stride, mul_comm stride 64, mul_assoc 64 stride stride) in
     omega (arith, turned stride a, mul-add-lt a (64 * stride) b (64 * stride) ha hb)
+
+-- each row lies within the table
+pub row_inside : (stride a : ℕ) → a < 64 * stride → stride * a + stride ≤ 64 * (stride * stride)
+row_inside stride a h = omega (arith, mul-le (a + 1) stride (64 * stride) stride (omega arith) (omega arith), mul_comm stride a, mul_assoc 64 stride stride)

@@ -42,3 +42,11 @@ pub record Grows (stride : ℕ) (D : ℕ → ℕ → Type 0) (C : List ℕ → T
   pub at_most : unset t ≤ unset s
   pub added : r ≡ true → unset t < unset s
   pub idle : r ≡ false → (t ≡ s) × C t
+
+-- a step that relates a and b
+abbrev pub Joins : ℕ → ℕ → ℕ → Bool → List ℕ → List ℕ → Type 0
+Joins stride a b r s t = Grows stride (Joined a b (On stride s)) (λ v. a < 64 * stride → b < 64 * stride → On stride v a b) r s t
+
+-- a step that relates `from` to all that `to` is related to
+abbrev pub Inherits : ℕ → ℕ → ℕ → Bool → List ℕ → List ℕ → Type 0
+Inherits stride from to r s t = Grows stride (Inherited from to (On stride s)) (λ v. from < 64 * stride → Covers stride v from to (64 * stride)) r s t

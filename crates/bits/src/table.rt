@@ -7,18 +7,14 @@ ghost use Rattle.std.specs.Prelude.{◌≡◌, length, replicate};
 pub fn get(words: &[u64], m: usize) -> bool
     ensures { result ≡ bit words.now m }
 {
-    let i = m / 64;
-    if i >= words.len() {
-        return false;
-    }
-    (words[i] >> (m % 64)) & 1 == 1
+    (word_at(words, m / 64) >> (m % 64)) & 1 == 1
 }
 
 /// The word at a place, 0 past the end.
 pub fn word_at(words: &[u64], i: usize) -> u64
     ensures { result ≡ word words.now i }
 {
-    if i < words.len() { words[i] } else { 0 }
+    words.get(i).copied().unwrap_or(0)
 }
 
 /// A table that bits are set in.
@@ -42,8 +38,7 @@ impl<'a> Bits<'a> {
     {
         let i = m / 64;
         if i < self.words.len() {
-            let word = self.words[i];
-            self.words[i] = word | (1u64 << (m % 64));
+            self.words[i] |= 1u64 << (m % 64);
         }
     }
 

@@ -1,10 +1,12 @@
 -- Counts of groups of bits: kept as a bit is turned over, and used to find the set bit of a place.
-use Rattle.std.proofs.Common.{◌≡◌, ℕ, zero, suc, ◌+◌, ◌-◌, ◌*◌, ◌/◌, ◌%◌, ◌^◌, ◌<◌, ◌≤◌, Bool, true, false, cond, eqb, List, length, get_or, set, replicate, sym, refl, ap, ◌∙◌, subst, ap₂, inl, inr, add-zero, add_assoc, mul-le-mul_right, suc-mul, div-one, add-one, arith}
+use Rattle.std.proofs.Common.{◌≡◌, ℕ, zero, suc, ◌+◌, ◌-◌, ◌*◌, ◌/◌, ◌%◌, ◌^◌, ◌<◌, ◌≤◌, Bool, true, false, cond, eqb, List, length, get_or, map, set, replicate, sym, refl, ap, ◌∙◌, subst, ap₂, inl, inr, add-zero, add_assoc, mul-le-mul_right, suc-mul, div-one, add-one, arith}
 use Rattle.std.specs.Int.Count.{ones, ones_in, ones_step}
 use Rattle.std.proofs.lemmas.Nat.{mul-le, shr-shr, shr_below}
-use Rattle.std.proofs.lemmas.List.{get_or-set_same, get_or-set_other}
+use Rattle.std.proofs.lemmas.List.{get_or-set_same, get_or-set_other, length-map, map-id}
+use Rattle.std.proofs.Math.ListN.{get_or-map}
 use Rattle.std.proofs.lemmas.Bool.{cases_eq, cases_lt}
-use Rattle.bitstore.specs.Marks.{bit_at, tally, sums, Counts, Within, InByte, OneMore, Ranked}
+use Rattle.bitstore.specs.Marks.{bit_at, tally, sums, Counts, Reaches, Within, OneMore, Ranked}
+use Rattle.bits.proofs.Words.{bit_zero}
 use Rattle.bits.specs.Words.{bit_of}
 use Rattle.bitstore.specs.Layout.{bits}
 use Rattle.bitstore.proofs.Ranks.{tally_same, tally_before, tally_after, tally_le, tally_zero, tally_none, fewer}
@@ -158,13 +160,24 @@ module _ (t : List ℕ) (i : ℕ) where
       tally_add (bit_at t) (8 * i) j
       ∙ ap (λ (x : ℕ). tally (bit_at t) (8 * i) + x) (tally_same (bit_of (get_or t i 0)) (λ x. bit_at t (8 * i + x)) j (λ x l. bit_in x (omega arith)))
 
-  pub byte_whole : get_or t i 0 < 256 → tally (bit_at t) (8 * (i + 1)) ≡ tally (bit_at t) (8 * i) + ones (get_or t i 0)
-  byte_whole h =
-      let e : 8 * (i + 1) ≡ 8 * i + 8 = omega arith in
-      omega (arith, ap (tally (bit_at t)) e, byte_part 8 (omega arith), ones_tally 8 (get_or t i 0) h)
-
   pub byte_ranked : (place rest j : ℕ) → tally (bit_at t) (8 * i) + rest ≡ place → j < 8 → Ranked (bit_of (get_or t i 0)) rest j → Ranked (bit_at t) place (8 * i + j)
   byte_ranked place rest j e h r = record { on = bit_in j h ∙ r.on; rank = omega (arith, byte_part j (omega arith), r.rank) }
+
+-- how many bits of a byte are set
+abbrev pub weight : ℕ → ℕ
+weight w = tally (bit_of w) 8
+
+-- the weights of the bytes add up to the count of the table's bits
+module _ (t : List ℕ) where
+  byte_weight : (i : ℕ) → get_or (map weight t) i 0 ≡ weight (get_or t i 0)
+  byte_weight i = ap (get_or (map weight t) i) (sym (tally_none (bit_of 0) 8 bit_zero)) ∙ get_or-map weight t i 0
+
+  pub byte_sums : (i : ℕ) → sums (map weight t) i ≡ tally (bit_at t) (8 * i)
+  unfolding sums
+  byte_sums zero = sym (tally_zero (bit_at t)) ∙ ap (tally (bit_at t)) (let e : 0 ≡ 8 * 0 = omega arith in e)
+  byte_sums (suc i) =
+      let e : 8 * suc i ≡ 8 * i + 8 = omega arith in
+      omega (arith, byte_sums i, byte_weight i, byte_part t i 8 (omega arith), ap (tally (bit_at t)) e)
 
 -- ---- the set bit of a place, by way of the groups
 
@@ -176,36 +189,47 @@ module _ (t wide close : List ℕ) (n place : ℕ) (far : Counts (bit_at t) 1638
       let e : bits n + (524288 - bits n) ≡ 524288 = omega arith in
       omega (arith, tally_le (bit_at t) (bits n) (524288 - bits n), ap (tally (bit_at t)) e)
 
-  pub first : length wide ≡ 32 → (0 ≤ length wide) × (sums wide 0 + place < sums wide (length wide))
-  first lw = (omega arith, omega (arith, total, far 0 (omega arith), far 32 (omega arith), ap (sums wide) lw, tally_zero (bit_at t)))
+  pub first : length wide ≡ 32 → Reaches (map (λ n. n) wide) 0 place
+  first lw = rw (map-id wide) (omega arith, omega (arith, total, far 0 (omega arith), far 32 (omega arith), ap (sums wide) lw, tally_zero (bit_at t)))
 
-  second_at : length wide ≡ 32 → (w left : ℕ) → Within wide 0 place w left → sums close (32 * w) + left ≡ place
-  second_at lw w left a =
-      let h : w < 32 = omega (arith, a.inside) in
-      let e : 32 * w * 512 ≡ w * 16384 = omega arith in
-      omega (arith, a.same, far 0 (omega arith), tally_zero (bit_at t), far w (omega arith), near (32 * w) (omega arith), ap (tally (bit_at t)) e)
+  module _ (lw : length wide ≡ 32) (lc : length close ≡ 1024) (w left : ℕ) (a : Within (map (λ n. n) wide) 0 place w left) where
+    a' : Within wide 0 place w left
+    a' = subst (λ xs. Within xs 0 place w left) (map-id wide) a
 
-  pub second : length wide ≡ 32 → length close ≡ 1024 → (w left : ℕ) → Within wide 0 place w left → (32 * w ≤ length close) × (sums close (32 * w) + left < sums close (length close))
-  second lw lc w left a =
-      (omega (arith, a.inside), omega (arith, second_at lw w left a, total, near 1024 (omega arith), ap (sums close) lc))
+    second_at : sums close (32 * w) + left ≡ place
+    second_at =
+        let h : w < 32 = omega (arith, a'.inside) in
+        let e : 32 * w * 512 ≡ w * 16384 = omega arith in
+        omega (arith, a'.same, far 0 (omega arith), tally_zero (bit_at t), far w (omega arith), near (32 * w) (omega arith), ap (tally (bit_at t)) e)
 
-  third_at : length wide ≡ 32 → length close ≡ 1024 → (w left c rest : ℕ) → Within wide 0 place w left → Within close (32 * w) left c rest → tally (bit_at t) (8 * (64 * c)) + rest ≡ place
-  third_at lw lc w left c rest a b =
-      let h : c < 1024 = omega (arith, b.inside) in
-      let e : c * 512 ≡ 8 * (64 * c) = omega arith in
-      omega (arith, second_at lw w left a, b.same, near c (omega arith), ap (tally (bit_at t)) e)
+    pub second : Reaches (map (λ n. n) close) (32 * w) left
+    second = rw (map-id close) (omega (arith, a'.inside), omega (arith, second_at, total, near 1024 (omega arith), ap (sums close) lc))
 
-  pub third : length wide ≡ 32 → length close ≡ 1024 → (w left c rest : ℕ) → Within wide 0 place w left → Within close (32 * w) left c rest
-      → (64 * c ≤ length t) × (tally (bit_at t) (8 * (64 * c)) + rest < tally (bit_at t) (8 * length t))
-  third lw lc w left c rest a b =
-      let at = third_at lw lc w left c rest a b in
-      let e : bits n ≡ 8 * length t = omega arith in
-      let l : tally (bit_at t) (8 * (64 * c)) + rest < tally (bit_at t) (8 * length t) = omega (arith, ap (tally (bit_at t)) e) in
-      let f = fewer (bit_at t) (8 * (64 * c)) (8 * length t) (omega arith) in
-      (omega arith, l)
+    module _ (c rest : ℕ) (b : Within (map (λ n. n) close) (32 * w) left c rest) where
+      b' : Within close (32 * w) left c rest
+      b' = subst (λ xs. Within xs (32 * w) left c rest) (map-id close) b
 
-  pub fourth : length wide ≡ 32 → length close ≡ 1024 → (w left c rest i over j : ℕ) → Within wide 0 place w left → Within close (32 * w) left c rest → InByte t (64 * c) rest i over
-      → j < 8 → Ranked (bit_of (get_or t i 0)) over j → (8 * i + j < bits n) × Ranked (bit_at t) place (8 * i + j)
-  fourth lw lc w left c rest i over j a b d h r =
-      let at = third_at lw lc w left c rest a b in
-      (omega (arith, d.inside), byte_ranked t i place over j (omega (arith, d.same)) h r)
+      third_at : sums (map weight t) (64 * c) + rest ≡ place
+      third_at =
+          let h : c < 1024 = omega (arith, b'.inside) in
+          let e : c * 512 ≡ 8 * (64 * c) = omega arith in
+          omega (arith, second_at, b'.same, near c (omega arith), byte_sums t (64 * c), ap (tally (bit_at t)) e)
+
+      pub third : Reaches (map weight t) (64 * c) rest
+      third =
+          let e : bits n ≡ 8 * length t = omega arith in
+          let start = byte_sums t (64 * c) in
+          let end = byte_sums t (length t) in
+          let l : tally (bit_at t) (8 * (64 * c)) < tally (bit_at t) (8 * length t) = omega (arith, third_at, ap (tally (bit_at t)) e) in
+          let f = fewer (bit_at t) (8 * (64 * c)) (8 * length t) l in
+          (omega (arith, length-map t weight), omega (arith, third_at, ap (tally (bit_at t)) e, ap (sums (map weight t)) (length-map t weight)))
+
+      module _ (i over : ℕ) (d : Within (map weight t) (64 * c) rest i over) where
+        pub fourth_inside : i < length t
+        fourth_inside = omega (arith, d.inside, length-map t weight)
+
+        pub fourth_enough : over < weight (get_or t i 0)
+        fourth_enough = omega (arith, d.here, byte_weight t i)
+
+        pub fourth : (j : ℕ) → j < 8 → Ranked (bit_of (get_or t i 0)) over j → (8 * i + j < bits n) × Ranked (bit_at t) place (8 * i + j)
+        fourth j h r = (omega (arith, fourth_inside), byte_ranked t i place over j (omega (arith, d.same, third_at, byte_sums t i)) h r)

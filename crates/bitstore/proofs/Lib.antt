@@ -4,5 +4,6 @@ pub mod Held
 pub mod Order
 pub mod Places
 pub mod Ranks
+pub mod Reached
 mod Stored
 pub mod Turns

@@ -1,11 +1,13 @@
 -- A fact and its bit: each is got back from the other, and bits ascend as the listing does.
-use Rattle.std.specs.Prelude.{◌≡◌, ℕ, ◌+◌, ◌-◌, ◌*◌, ◌/◌, ◌%◌, ◌<◌, ◌≤◌, Bool, true, cond, ◌&&◌, ◌||◌, ◌⊎◌, ◌==◌, nat_lt, refl}
-use Rattle.std.proofs.lemmas.Nat.{div-add-mod', mul-add-lt, div-mul-add, mod-mul-add, div_below, mod_below}
-use Rattle.std.proofs.lemmas.Bool.{and_from, cases_lt, cases_order, eq-eqb, le-ltb, lt-ltb, or_left, or_right}
+use Rattle.std.specs.Prelude.{◌≡◌, ℕ, ◌+◌, ◌-◌, ◌*◌, ◌/◌, ◌%◌, ◌<◌, ◌≤◌, Bool, true, false, cond, ◌&&◌, ◌||◌, ◌⊎◌, ◌==◌, Decides, Some, None, Option, nat_lt, refl}
+use Rattle.std.proofs.lemmas.Nat.{div-add-mod', mul-add-lt, div-mul-add, mod-mul-add, div_below, mod_below, mul-le}
+use Rattle.std.proofs.lemmas.Bool.{and_from, cases_lt, cases_order, eq-eqb, le-ltb, false≢true, lt-ltb, or_left, or_right}
 use Rattle.std.proofs.Common.{inl, inr, sym, ap, ap₂, ◌∙◌, subst, mul_assoc, mul_comm, add-mul, mul-le-mul_right, arith}
+use Rattle.facts.proofs.Nth.{none_some, some_inj}
+use Rattle.std.specs.Bool.{then_some}
 use Rattle.vocabulary.specs.declared.facts.Fact.{Fact}
 use Rattle.vocabulary.specs.declared.facts.Fact.TheVariants.{InClass, Linked}
-use Rattle.bitstore.specs.Layout.{position_of, bits, link_of, fact_of}
+use Rattle.bitstore.specs.Layout.{Located, bits, fact_of, link_of, position_of}
 use Rattle.facts.specs.Changes.{NamesBelow}
 use Rattle.facts.specs.Listings.{earlier}
 
@@ -102,3 +104,14 @@ pos_order n (Linked l a b) (Linked m x y) hf hg lt =
           or_right (nat_lt l.0 m.0) (l.0 == m.0 && rest)
           (and_from (l.0 == m.0) rest (eq-eqb l.0 m.0 row) (or_right (nat_lt a.0 x.0) (a.0 == x.0 && nat_lt b.0 y.0) last))
     ]
+
+-- the bit of a fact that a test found to have one, and none of one that has not
+pub located : (n : ℕ) (f : Fact) → n ≤ 120 → (fits : Bool) → Decides fits (NamesBelow n f) → (x : ℕ) → x ≡ position_of n f → (r : Option ℕ) → r ≡ then_some fits x → Located n f r
+located n f h true d x e (Some k) p =
+    let low = d.0 refl in
+    let same : k ≡ position_of n f = some_inj p ∙ e in
+    let inside = pos_below n f low in
+    (low, record { at = same; inside = omega arith; small = omega (arith, mul-le n n 120 120 h h) })
+located n f h true d x e None p = absurd (none_some p)
+located n f h false d x e (Some k) p = absurd (none_some (sym p))
+located n f h false d x e None p = λ low. false≢true (d.1 low)

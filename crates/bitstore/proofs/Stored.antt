@@ -1,86 +1,97 @@
--- A bit store as its methods see it: what turning over the bit k of a fact f leaves.
-use Rattle.std.proofs.Common.{◌≡◌, ℕ, ◌+◌, ◌-◌, ◌/◌, ◌<◌, Bool, true, false, List, length, get_or, set, sym, refl, ap, ◌∙◌, subst, arith}
-use mathlib.Core.List.{Memᴰ}
+-- A bit store as its methods see it: the counts after the bit k is turned over, and the facts then.
+use Rattle.std.proofs.Common.{◌≡◌, ℕ, ◌+◌, ◌-◌, ◌/◌, ◌<◌, ◌≤◌, Bool, true, false, cond, not, length, get_or, set, sym, refl, ap, ◌∙◌, subst, arith}
+use Rattle.std.proofs.lemmas.Bool.{false≢true}
+use Rattle.std.proofs.lemmas.Nat.{mul-le}
+use Rattle.distinct.proofs.Sameness.{Parted}
 use Rattle.facts.specs.Changes.{NamesBelow}
 use Rattle.vocabulary.specs.declared.facts.Fact.{Fact}
-use Rattle.distinct.proofs.Sameness.{Parted}
+use mathlib.Core.List.{Memᴰ}
 use Rattle.bitstore.specs.declared.store.BitStore.{BitStore}
-use Rattle.bitstore.specs.Layout.{Placed, bits, listing, position_of}
-use Rattle.bitstore.specs.Marks.{bit_at, Counts, OneMore, tally}
-use Rattle.bitstore.proofs.Held.{bit_stands, stands_bit}
+use Rattle.bitstore.specs.Layout.{Placed, bits, listing}
+use Rattle.bitstore.specs.Marks.{bit_at, Counts, OneMore, Turned, tally}
 use Rattle.bitstore.proofs.Bytes.{flipped, flip_clears, flip_sets}
-use Rattle.bitstore.proofs.Groups.{counts_down, counts_some, counts_up}
-use Rattle.bitstore.proofs.Turns.{bit_parted, more_bits}
+use Rattle.bitstore.proofs.Groups.{counts_down, counts_le, counts_some, counts_up}
+use Rattle.bitstore.proofs.Held.{bit_stands, stands_bit}
+use Rattle.bitstore.proofs.Ranks.{tally_after}
+use Rattle.bitstore.proofs.Turns.{bit_parted}
 
-not_true : (b : Bool) → (b ≡ true → ⊥) → b ≡ false
-not_true true f = absurd (f refl)
-not_true false f = refl
+-- a count after the turn
+abbrev pub stepped : Bool → ℕ → ℕ
+stepped on n = cond on (n + 1) (n - 1)
 
-module _ (s : BitStore) (f : Fact) where
-  abbrev pub facts : List Fact
-  facts = listing s.names s.table.now
-
+module _ (s : BitStore) (k : ℕ) (inside : k < bits s.names) where
   abbrev was : ℕ → Bool
   was = bit_at s.table.now
 
-  pub has_below : Memᴰ f facts → NamesBelow s.names f
-  has_below has = (stands_bit s.names s.table.now (omega arith) f has).0
+  abbrev pub after : ℕ → Bool
+  after = bit_at (flipped s.table.now k)
 
-  module _ (k : ℕ) (at : Placed s.names f k) where
-    abbrev after : List ℕ
-    after = flipped s.table.now k
+  pub in_table : k / 8 < length s.table.now
+  in_table = omega arith
 
-    in_table : k / 8 < length s.table.now
-    in_table = omega arith
+  pub in_groups : k < 524288
+  in_groups = omega (arith, mul-le s.names s.names 120 120 s.most s.most)
 
-    -- the bit was clear: the fact comes in
-    module _ (out : Memᴰ f facts → ⊥) (low : NamesBelow s.names f) where
-      on : OneMore k was (bit_at after)
-      on = flip_sets s.table.now k in_table (not_true (was k) (λ e. out (bit_stands s.names s.table.now (omega arith) f low (ap was (sym at.at) ∙ e))))
+  pub turned_bits : (on : Bool) → was k ≡ not on → Turned on k was after
+  turned_bits true e = flip_sets s.table.now k in_table e
+  turned_bits false e = flip_clears s.table.now k in_table e
 
-      on_at : OneMore (position_of s.names f) was (bit_at after)
-      on_at = subst (λ (x : ℕ). OneMore x was (bit_at after)) at.at on
+  -- what the bit adds to each count that it is in, or takes from it
+  pub turned_held : (on : Bool) → Turned on k was after → stepped on s.count ≡ tally after (bits s.names)
+  turned_held true o = omega (arith, s.held, tally_after was after k o (bits s.names) inside)
+  turned_held false o = omega (arith, s.held, tally_after after was k o (bits s.names) inside)
 
-      pub up_held : s.count + 1 ≡ tally (bit_at after) (bits s.names)
-      up_held = omega (arith, s.held, more_bits s.names (omega arith) s.table.now after f low on_at)
+  pub turned_far : (on : Bool) → Turned on k was after → length s.wide ≡ 32 → Counts after 16384 32 (set s.wide (k / 16384) (stepped on (get_or s.wide (k / 16384) 0)))
+  turned_far true o e = counts_up was after 16384 32 k (k / 16384) s.wide o (omega arith) (omega arith) (omega (arith, in_groups)) s.far (omega arith)
+  turned_far false o e = counts_down after was 16384 32 k (k / 16384) s.wide o (omega arith) (omega arith) (omega (arith, in_groups)) s.far (omega arith)
 
-      pub up_far : length s.wide ≡ 32 → Counts (bit_at after) 16384 32 (set s.wide (k / 16384) (get_or s.wide (k / 16384) 0 + 1))
-      up_far e = counts_up was (bit_at after) 16384 32 k (k / 16384) s.wide on (omega arith) (omega arith) (omega arith) s.far (omega arith)
+  pub turned_near : (on : Bool) → Turned on k was after → length s.close ≡ 1024 → Counts after 512 1024 (set s.close (k / 512) (stepped on (get_or s.close (k / 512) 0)))
+  turned_near true o e = counts_up was after 512 1024 k (k / 512) s.close o (omega arith) (omega arith) (omega (arith, in_groups)) s.near (omega arith)
+  turned_near false o e = counts_down after was 512 1024 k (k / 512) s.close o (omega arith) (omega arith) (omega (arith, in_groups)) s.near (omega arith)
 
-      pub up_near : length s.close ≡ 1024 → Counts (bit_at after) 512 1024 (set s.close (k / 512) (get_or s.close (k / 512) 0 + 1))
-      up_near e = counts_up was (bit_at after) 512 1024 k (k / 512) s.close on (omega arith) (omega arith) (omega arith) s.near (omega arith)
+  -- a bit that is cleared is in each count
+  module _ (on : Bool) (off : on ≡ false) (o : Turned on k was after) where
+    cleared : OneMore k after was
+    cleared = subst (λ (b : Bool). Turned b k was after) off o
 
-      pub up_parted : Parted f (listing s.names after) facts
-      up_parted = bit_parted s.names (omega arith) s.table.now after f low on_at
+    pub some_all : 1 ≤ s.count
+    some_all = omega (arith, s.held, tally_after after was k cleared (bits s.names) inside)
 
-    -- the bit was set: the fact goes out
-    module _ (has : Memᴰ f facts) where
-      off : OneMore k (bit_at after) was
-      off = flip_clears s.table.now k in_table (ap was at.at ∙ (stands_bit s.names s.table.now (omega arith) f has).1)
+    pub some_far : 1 ≤ get_or s.wide (k / 16384) 0
+    some_far = counts_some after was 16384 32 k (k / 16384) s.wide cleared (omega arith) (omega arith) (omega (arith, in_groups)) s.far
 
-      off_at : OneMore (position_of s.names f) (bit_at after) was
-      off_at = subst (λ (x : ℕ). OneMore x (bit_at after) was) at.at off
+    pub some_near : 1 ≤ get_or s.close (k / 512) 0
+    some_near = counts_some after was 512 1024 k (k / 512) s.close cleared (omega arith) (omega arith) (omega (arith, in_groups)) s.near
 
-      less_bits : tally was (bits s.names) ≡ tally (bit_at after) (bits s.names) + 1
-      less_bits = more_bits s.names (omega arith) after s.table.now f (has_below has) off_at
+  pub room_far : get_or s.wide (k / 16384) 0 ≤ 16384
+  room_far = counts_le was 16384 32 (k / 16384) s.wide s.far (omega (arith, in_groups))
 
-      pub some : 0 < s.count
-      some = omega (arith, s.held, less_bits)
+  pub room_near : get_or s.close (k / 512) 0 ≤ 512
+  room_near = counts_le was 512 1024 (k / 512) s.close s.near (omega (arith, in_groups))
 
-      pub some_far : 0 < get_or s.wide (k / 16384) 0
-      some_far = counts_some (bit_at after) was 16384 32 k (k / 16384) s.wide off (omega arith) (omega arith) (omega arith) s.far
+  pub turned_small : (on : Bool) → (on ≡ true → s.count < 4096) → stepped on s.count ≤ 4096
+  turned_small true room = omega (arith, room refl)
+  turned_small false room = omega (arith, s.small)
 
-      pub some_near : 0 < get_or s.close (k / 512) 0
-      some_near = counts_some (bit_at after) was 512 1024 k (k / 512) s.close off (omega arith) (omega arith) (omega arith) s.near
+-- k is the bit of the fact f
+module _ (s : BitStore) (f : Fact) (k : ℕ) (found : NamesBelow s.names f × Placed s.names f k) where
+  pub fact_out : bit_at s.table.now k ≡ false → Memᴰ f (listing s.names s.table.now) → ⊥
+  fact_out off m = false≢true (sym off ∙ ap (bit_at s.table.now) found.1.at ∙ (stands_bit s.names s.table.now (omega arith) f m).1)
 
-      pub down_held : s.count - 1 ≡ tally (bit_at after) (bits s.names)
-      down_held = omega (arith, s.held, less_bits)
+  pub fact_in : bit_at s.table.now k ≡ true → Memᴰ f (listing s.names s.table.now)
+  fact_in on = bit_stands s.names s.table.now (omega arith) f found.0 (ap (bit_at s.table.now) (sym found.1.at) ∙ on)
 
-      pub down_far : length s.wide ≡ 32 → Counts (bit_at after) 16384 32 (set s.wide (k / 16384) (get_or s.wide (k / 16384) 0 - 1))
-      down_far e = counts_down (bit_at after) was 16384 32 k (k / 16384) s.wide off (omega arith) (omega arith) (omega arith) s.far (omega arith)
+  -- the store t after it was turned over
+  module _ (t : BitStore) (names : t.names ≡ s.names) where
+    same : listing t.names t.table.now ≡ listing s.names t.table.now
+    same = ap (λ (n : ℕ). listing n t.table.now) names
 
-      pub down_near : length s.close ≡ 1024 → Counts (bit_at after) 512 1024 (set s.close (k / 512) (get_or s.close (k / 512) 0 - 1))
-      down_near e = counts_down (bit_at after) was 512 1024 k (k / 512) s.close off (omega arith) (omega arith) (omega arith) s.near (omega arith)
+    pub parted_in : Turned true k (bit_at s.table.now) (bit_at t.table.now) → Parted f (listing t.names t.table.now) (listing s.names s.table.now)
+    parted_in o =
+        rw same
+        (bit_parted s.names (omega arith) s.table.now t.table.now f found.0 (subst (λ (x : ℕ). OneMore x (bit_at s.table.now) (bit_at t.table.now)) found.1.at o))
 
-      pub down_parted : Parted f facts (listing s.names after)
-      down_parted = bit_parted s.names (omega arith) after s.table.now f (has_below has) off_at
+    pub parted_out : Turned false k (bit_at s.table.now) (bit_at t.table.now) → Parted f (listing s.names s.table.now) (listing t.names t.table.now)
+    parted_out o =
+        rw same
+        (bit_parted s.names (omega arith) t.table.now s.table.now f found.0 (subst (λ (x : ℕ). OneMore x (bit_at t.table.now) (bit_at s.table.now)) found.1.at o))

@@ -1,6 +1,7 @@
 -- Where the bit of each fact lies, for names below n: first a bit for each class and name, then one for each link and two names.
-use Rattle.std.specs.Prelude.{◌≡◌, ℕ, ◌+◌, ◌-◌, ◌*◌, ◌/◌, ◌%◌, ◌<◌, true, cond, List, map, Some, nat_lt}
+use Rattle.std.specs.Prelude.{◌≡◌, ℕ, ◌+◌, ◌-◌, ◌*◌, ◌/◌, ◌%◌, ◌<◌, true, cond, List, map, Some, None, Option, nat_lt}
 use Rattle.bitstore.specs.Marks.{bit_at, listed}
+use Rattle.facts.specs.Changes.{NamesBelow}
 use Rattle.facts.specs.Listings.{earlier}
 use Rattle.std.specs.List.{slice_get}
 use Rattle.vocabulary.specs.declared.facts.Fact.{Fact}
@@ -23,6 +24,11 @@ pub record Placed (n : ℕ) (f : Fact) (k : ℕ) : Type 0 where
   pub at : k ≡ position_of n f
   pub inside : k < bits n
   pub small : k < 524288
+
+-- what is answered for the bit of f: there is one if the names of f are below n
+abbrev pub Located : ℕ → Fact → Option ℕ → Type 0
+Located n f (Some k) = NamesBelow n f × Placed n f k
+Located n f None = NamesBelow n f → ⊥
 
 -- the fact of the bit y of the links
 abbrev pub link_of : ℕ → ℕ → Fact

@@ -1,31 +1,25 @@
 //! The bit of a fact, and the fact of a bit, for names below `names`.
 
-ghost use Rattle.std.specs.Prelude.{◌≡◌, ◌<◌, ◌≤◌, Decides};
-ghost use Rattle.bitstore.specs.Layout.{ListingAscends, Placed, bits, fact_of};
-ghost use Rattle.facts.specs.Changes.{NamesBelow};
+ghost use Rattle.std.specs.Prelude.{◌≡◌, ◌<◌, ◌≤◌};
+ghost use Rattle.bitstore.specs.Layout.{ListingAscends, Located, bits, fact_of};
 
 use vocabulary::facts::Fact;
 use vocabulary::numbers::{Class, Link, Name};
 
-/// Whether there is a bit for a fact.
-pub(crate) fn has_bit(fact: Fact, names: usize) -> bool
-    ensures { Decides result (NamesBelow names fact) }
+/// The bit of a fact, if there is one.
+pub(crate) fn bit_of(fact: Fact, names: usize) -> Option<usize>
+    requires { names ≤ 120 }
+    ensures { Located names fact result }
 {
     match fact {
-        Fact::InClass(c, a) => c.fits() && (a.0 as usize) < names,
-        Fact::Linked(l, a, b) => l.fits() && (a.0 as usize) < names && (b.0 as usize) < names,
-    }
-}
-
-/// The bit of a fact.
-pub(crate) fn position(fact: Fact, names: usize) -> usize
-    requires { (NamesBelow names fact) × (names ≤ 120) }
-    ensures { Placed names fact result }
-{
-    match fact {
-        Fact::InClass(c, a) => c.0 as usize * names + a.0 as usize,
+        Fact::InClass(c, a) => {
+            let fits = c.fits() && (a.0 as usize) < names;
+            fits.then_some(c.0 as usize * names + a.0 as usize)
+        }
         Fact::Linked(l, a, b) => {
-            64 * names + ((l.0 as usize * names + a.0 as usize) * names + b.0 as usize)
+            let fits = l.fits() && (a.0 as usize) < names && (b.0 as usize) < names;
+            let row = l.0 as usize * names + a.0 as usize;
+            fits.then_some(64 * names + (row * names + b.0 as usize))
         }
     }
 }

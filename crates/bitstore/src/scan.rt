@@ -1,8 +1,9 @@
 //! A table of bytes as bits, and the search for a set bit by its place among them.
 
-ghost use Rattle.std.specs.Prelude.{◌≡◌, ◌+◌, ◌*◌, ◌/◌, ◌<◌, ◌≤◌, length, count_ones};
+ghost use Rattle.std.specs.Prelude.{◌≡◌, ℕ, ◌/◌, ◌<◌, length, map};
 ghost use Rattle.bits.specs.Words.{bit_of};
-ghost use Rattle.bitstore.specs.Marks.{InByte, Ranked, Within, bit_at, sums, tally};
+ghost use Rattle.bitstore.specs.Marks.{Measures, Ranked, Reaches, Within, bit_at, tally};
+ghost use Rattle.std.specs.Fn.{FnReturnsAt};
 
 /// Whether bit `j` of a byte is set.
 fn bit_in(byte: u8, j: usize) -> bool
@@ -20,52 +21,44 @@ pub(crate) fn bit(table: &[u8], k: usize) -> bool
     bit_in(table[k / 8], k % 8)
 }
 
-/// The group that is `left` set bits beyond the start of group `from`, and how many of them lie within it.
-pub(crate) fn group_of(counts: &[u16], from: usize, left: usize) -> (usize, usize)
-    requires { (from ≤ length counts.now) × (sums counts.now from + left < sums counts.now (length counts.now)) }
-    ensures { Within counts.now from left result.0 result.1 }
+/// Where a search among sizes ended.
+#[derive(Clone, Copy)]
+pub(crate) struct Spot {
+    /// The element that was reached.
+    pub(crate) at: usize,
+    /// How much of it lies before what was sought.
+    pub(crate) left: usize,
+}
+
+/// The spot that is `left` beyond the start of element `from`, where `size` says how large an element is.
+pub(crate) fn reach<T, F: Fn(&T) -> usize>(items: &[T], from: usize, left: usize, size: F) -> Spot
+    requires callable { F.IsAlwaysCallable size }
+    requires within { (measure : T → ℕ) × Measures (FnReturnsAt F.Fn size) measure items.now × Reaches (map measure items.now) from left }
+    ensures inside { result.at < length items.now }
+    ensures measured { (measure : T → ℕ) → Measures (FnReturnsAt F.Fn size) measure items.now → Within (map measure items.now) from left result.at result.left }
 {
-    let mut rest = left;
-    for i in from..counts.len() {
-        let here = counts[i] as usize;
-        if rest < here {
-            return (i, rest);
+    let mut left = left;
+    for (i, item) in items[from..].iter().enumerate() {
+        let here = size(item);
+        if left < here {
+            return Spot { at: from + i, left };
         }
-        rest -= here;
+        left -= here;
     }
     unreachable()
 }
 
-/// The byte that is `left` set bits beyond byte `from`, and how many of them lie within it.
-pub(crate) fn byte_of(table: &[u8], from: usize, left: usize) -> (usize, usize)
-    requires { (from ≤ length table.now) × (tally (bit_at table.now) (8 * from) + left < tally (bit_at table.now) (8 * length table.now)) }
-    ensures { InByte table.now from left result.0 result.1 }
+/// How many bits of a byte are set.
+pub(crate) fn weight(byte: u8) -> usize
+    ensures { result ≡ tally (bit_of byte) 8 }
 {
-    let mut rest = left;
-    for i in from..table.len() {
-        let here = table[i].count_ones() as usize;
-        if rest < here {
-            return (i, rest);
-        }
-        rest -= here;
-    }
-    unreachable()
+    byte.count_ones() as usize
 }
 
 /// The set bit of a byte that has `left` set bits before it.
-pub(crate) fn bit_of(byte: u8, left: usize) -> usize
-    requires { left < count_ones byte }
+pub(crate) fn nth_set(byte: u8, left: usize) -> usize
+    requires { left < tally (bit_of byte) 8 }
     ensures { (result < 8) × Ranked (bit_of byte) left result }
 {
-    let mut rest = left;
-    for j in 0..8usize {
-        if !bit_in(byte, j) {
-            continue;
-        }
-        if rest == 0 {
-            return j;
-        }
-        rest -= 1;
-    }
-    unreachable()
+    (0..8usize).filter(|j| bit_in(byte, *j)).nth(left).unwrap()
 }

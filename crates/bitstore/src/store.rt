@@ -1,8 +1,8 @@
 //! The bit store: its facts are those whose bits are set, in the order of their bits.
 
-ghost use Rattle.std.specs.Prelude.{◌≡◌, ◌*◌, ◌<◌, ◌≤◌, [], length};
+ghost use Rattle.std.specs.Prelude.{◌≡◌, ◌*◌, ◌<◌, ◌≤◌, true, not, [], length};
 ghost use Rattle.bitstore.specs.Layout.{bits, bytes, listing};
-ghost use Rattle.bitstore.specs.Marks.{Counts, bit_at, tally};
+ghost use Rattle.bitstore.specs.Marks.{Counts, Turned, bit_at, tally};
 ghost use Rattle.bitstore.specs.Passes.{BitSuits};
 ghost use Rattle.bitstore.specs.Rooms.{room};
 ghost use Rattle.distinct.proofs.Sameness.{different_had};
@@ -13,16 +13,16 @@ ghost use Rattle.std.specs.List.{AllByRecursion};
 ghost use Rattle.vocabulary.proofs.Ranges.{facts_had};
 ghost use Rattle.vocabulary.specs.Ranges.{FactFits};
 
-use crate::layout::{fact_at, has_bit, position};
+use crate::layout::{bit_of, fact_at};
 use crate::pass::BitPass;
-use crate::scan::{bit, bit_of, byte_of, group_of};
+use crate::scan::{bit, nth_set, reach, weight};
 use facts::source::{Source, Store};
 use vocabulary::effects::Effect;
 use vocabulary::facts::Fact;
 use vocabulary::faults::Fault;
 
 /// A store holds at most so many facts.
-const MOST: usize = 4096;
+const MOST: u16 = 4096;
 
 /// It takes facts whose names are below `names` while fewer than 4,096 stand.
 ///
@@ -31,7 +31,7 @@ const MOST: usize = 4096;
 pub struct BitStore<'a> {
     table: &'a mut [u8],
     names: usize,
-    count: usize,
+    count: u16,
     wide: [u16; 32],
     close: [u16; 1024],
     ghost some: { 64 ≤ names },
@@ -62,6 +62,29 @@ impl<'a> BitStore<'a> {
             close: [0; 1024],
         }
     }
+
+    /// Whether a bit is set.
+    fn is_set(&self, k: usize) -> bool
+        requires { k < bits self.now.names }
+        ensures { result ≡ bit_at self.now.table.now k }
+    {
+        bit(self.table, k)
+    }
+
+    /// Turns a bit over and keeps the counts by it: it is set now if `on`, and else it is clear.
+    fn turn(&mut self, k: usize, on: bool)
+        requires inside { k < bits self.old.names }
+        requires other { bit_at self.old.table.now k ≡ not on }
+        requires room { on ≡ true → self.old.count < 4096 }
+        ensures bit { Turned on k (bit_at self.old.table.now) (bit_at self.new.table.now) }
+        ensures names { self.new.names ≡ self.old.names }
+    {
+        let step = |n: u16| if on { n + 1 } else { n - 1 };
+        self.table[k / 8] ^= 1 << (k % 8);
+        self.count = step(self.count);
+        self.wide[k / 16384] = step(self.wide[k / 16384]);
+        self.close[k / 512] = step(self.close[k / 512]);
+    }
 }
 
 impl Source for BitStore<'_> {
@@ -74,25 +97,25 @@ impl Source for BitStore<'_> {
     ghost fitting = { λ s. facts_had (listing s.names s.table.now) s.fitting };
 
     fn count(&self) -> usize {
-        self.count
+        usize::from(self.count)
     }
 
     fn stands(&self, fact: Fact) -> bool {
-        if !has_bit(fact, self.names) {
+        let Some(k) = bit_of(fact, self.names) else {
             return false;
-        }
-        bit(self.table, position(fact, self.names))
+        };
+        self.is_set(k)
     }
 
     fn at(&self, place: usize) -> Option<Fact> {
-        if place >= self.count {
+        if place >= self.count() {
             return None;
         }
-        let (wide, left) = group_of(&self.wide, 0, place);
-        let (close, left) = group_of(&self.close, 32 * wide, left);
-        let (at, left) = byte_of(self.table, 64 * close, left);
-        let byte = self.table[at];
-        Some(fact_at(8 * at + bit_of(byte, left), self.names))
+        let wide = reach(&self.wide, 0, place, |n| usize::from(*n));
+        let close = reach(&self.close, 32 * wide.at, wide.left, |n| usize::from(*n));
+        let byte = reach(self.table, 64 * close.at, close.left, |b| weight(*b));
+        let bit = nth_set(self.table[byte.at], byte.left);
+        Some(fact_at(8 * byte.at + bit, self.names))
     }
 }
 
@@ -110,23 +133,16 @@ impl Store for BitStore<'_> {
         if !fact.fits() {
             return Err(Fault::Range);
         }
-        if self.stands(fact) {
+        let Some(k) = bit_of(fact, self.names) else {
+            return Err(Fault::NotTaken);
+        };
+        if self.is_set(k) {
             return Ok(Effect::Unchanged);
         }
-        let names = self.names;
-        let count = self.count;
-        if !has_bit(fact, names) || count >= MOST {
+        if self.count >= MOST {
             return Err(Fault::NotTaken);
         }
-        let k = position(fact, names);
-        // The bit is clear: turning it over sets it.
-        let byte = self.table[k / 8];
-        self.table[k / 8] = byte ^ (1u8 << (k % 8));
-        self.count = count + 1;
-        let wide = self.wide[k / 16384];
-        self.wide[k / 16384] = wide + 1;
-        let close = self.close[k / 512];
-        self.close[k / 512] = close + 1;
+        self.turn(k, true);
         Ok(Effect::Changed)
     }
 
@@ -139,20 +155,12 @@ impl Store for BitStore<'_> {
         if !fact.fits() {
             return Err(Fault::Range);
         }
-        if !self.stands(fact) {
-            return Ok(Effect::Unchanged);
+        match bit_of(fact, self.names) {
+            Some(k) if self.is_set(k) => {
+                self.turn(k, false);
+                Ok(Effect::Changed)
+            }
+            _ => Ok(Effect::Unchanged),
         }
-        let names = self.names;
-        let count = self.count;
-        let k = position(fact, names);
-        // The bit is set: turning it over clears it.
-        let byte = self.table[k / 8];
-        self.table[k / 8] = byte ^ (1u8 << (k % 8));
-        self.count = count - 1;
-        let wide = self.wide[k / 16384];
-        self.wide[k / 16384] = wide - 1;
-        let close = self.close[k / 512];
-        self.close[k / 512] = close - 1;
-        Ok(Effect::Changed)
     }
 }

@@ -4,3 +4,4 @@ pub mod Growing
 pub mod Listing
 pub mod Reading
 pub mod Spreading
+pub mod Steps

@@ -1,6 +1,5 @@
 -- What a bit of a sealed book's tables says of the exclusion closure, where all that is known is that some proof ties them.
-use Rattle.std.proofs.lemmas.Bool.{false≢true}
-use Rattle.std.proofs.Common.{Bool, true, false, Decides}
+use Rattle.std.proofs.Common.{Bool, true, Decides}
 use mathlib.Core.Bool.{Bool-set}
 use mathlib.Core.HLevel.{⊥_prop}
 use mathlib.Core.Logic.{∥∥₁_elim}
@@ -16,7 +15,3 @@ told r dec held to from d = (
   λ e. stable dec (λ n. ∥∥₁_elim held ⊥_prop (λ h. n (to h (d.0 e)))),
   λ x. ∥∥₁_elim held (Bool-set r true) (λ h. d.1 (from h x)),
 )
-
--- what is out of range is in no closure
-pub never : {H E : Type 0} → ∥ H ∥₁ → (H → E → ⊥) → Decides false E
-never held no_way = (λ e. absurd (false≢true e), λ x. ∥∥₁_elim held (Bool-set false true) (λ h. absurd (no_way h x)))

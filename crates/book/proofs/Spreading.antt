@@ -2,12 +2,13 @@
 use Rattle.std.proofs.Common.{◌≡◌, ℕ, ◌+◌, ◌*◌, ◌<◌, Bool, true, false, ◌||◌, List, length, get_or, Decides, sym, refl, ap, ◌∙◌, subst, subst₂, inl, inr, arith}
 use Rattle.bits.proofs.Counting.{marked_le, marked_lt}
 use Rattle.bits.specs.Words.{Marked, bit}
+use Rattle.book.proofs.Steps.{adds_like, adds_then}
 use Rattle.distinct.proofs.Members.{member_at, place_of}
-use Rattle.book.specs.Reach.{AllReached, Led, LedBy, LedFirst, NodeFits, NodeOn, NodeStep, Settled, Spreads, class_step, link_step, node_code}
+use Rattle.book.specs.Reach.{Led, LedBy, LedFirst, NodeFits, NodeOn, NodeStep, ReachedBy, Settled, Spreads, class_step, link_step, node_code}
 use Rattle.book.specs.declared.reach.Node.{Node}
 use Rattle.book.specs.declared.reach.Node.TheVariants.{Class, Link}
 use Rattle.std.proofs.lemmas.List.{get_or_default}
-use Rattle.std.proofs.lemmas.Bool.{cases_eq, false≢true, true≢false, or_cases, or_parts}
+use Rattle.std.proofs.lemmas.Bool.{cases_eq, true≢false}
 use Rattle.theory.proofs.Reached.{beyond, once, turned_step}
 use Rattle.theory.specs.Reaching.{LinkStep, Reaches, Step, along, back, by_link, by_rule, here, then}
 use Rattle.vocabulary.specs.Codes.{basic_below, directed_below}
@@ -30,17 +31,10 @@ node_same (Class b) (Link d) h k e = absurd (omega (arith, basic_below b h))
 node_same (Link d) (Class b) h k e = absurd (omega (arith, basic_below b k))
 node_same (Link d) (Link e) h k s = ap Link (directed_same d e h k (omega arith))
 
--- a test of a bit, from what the calls answer
-pub bit_told : {r : Bool} {w s : List ℕ} {i j : ℕ} → r ≡ bit w i → w ≡ s → i ≡ j → bit s j ≡ r
-bit_told {w = w} {s = s} {i = i} {j = j} e ew ei = sym (e ∙ ap (bit w) ei ∙ ap (λ (t : List ℕ). bit t j) ew)
-
 -- one mark is set
 module _ (to : Node) (s t : List ℕ) (fits : NodeFits to) (size : length s ≡ 3) (m : Marked (node_code to) s t) where
   inside : node_code to < 64 * length s
   inside = omega (arith, node_below to fits)
-
-  pub marked_node : NodeOn t to
-  marked_node = record { fits = fits; on = m.here inside }
 
   pub marked_more : (n : Node) → NodeOn s n → NodeOn t n
   marked_more n h =
@@ -58,70 +52,14 @@ module _ (to : Node) (s t : List ℕ) (fits : NodeFits to) (size : length s ≡ 
 
   pub lead_one : (from : Node) {C : List ℕ → Type 0} → NodeOn s from → bit s (node_code to) ≡ false → Spreads (λ rules. NodeStep rules from to) C true s t
   lead_one from o off = record {
-    kept = m.kept;
-    more = marked_more;
-    sound = λ rules step start old. marked_only (Reaches (NodeStep rules) start) (beyond (old from o) (once step)) old;
+    extends = record {
+      more = marked_more;
+      sound = λ x step old. marked_only (ReachedBy x) (beyond (old from o) (once step)) old;
+    };
     at_most = marked_le m;
     added = λ _. marked_lt m inside off;
     idle = λ e. absurd (true≢false e);
   }
-
--- ---- step after step
-
-pub spreads_none : {G : List Rule → Type 0} {C : List ℕ → Type 0} {s : List ℕ} → C s → Spreads G C false s s
-spreads_none c = record {
-  kept = refl;
-  more = λ n h. h;
-  sound = λ rules h from old. old;
-  at_most = omega arith;
-  added = λ e. absurd (false≢true e);
-  idle = λ e. (refl, c);
-}
-
-pub spreads_like : {G H : List Rule → Type 0} {C D : List ℕ → Type 0} {r : Bool} {s t : List ℕ} → ((rules : List Rule) → H rules → G rules) → (C t → D t) → Spreads G C r s t → Spreads H D r s t
-spreads_like g d w = record {
-  kept = w.kept;
-  more = w.more;
-  sound = λ rules h. w.sound rules (g rules h);
-  at_most = w.at_most;
-  added = w.added;
-  idle = λ e. let i = w.idle e in (i.0, d i.1);
-}
-
--- the answers are joined by `|=`
-pub spreads_then : {G : List Rule → Type 0} {C D E : List ℕ → Type 0} {r q : Bool} {s t u : List ℕ} → (C u → D u → E u) → Spreads G C r s t → Spreads G D q t u → Spreads G E (r || q) s u
-spreads_then {C = C} {r = r} {q = q} f v w = record {
-  kept = w.kept ∙ v.kept;
-  more = λ n h. w.more n (v.more n h);
-  sound = λ rules h from old. w.sound rules h from (v.sound rules h from old);
-  at_most = omega (arith, v.at_most, w.at_most);
-  added = λ e. elim (or_cases r q e) [
-    | inl g ↦ omega (arith, v.added g, w.at_most)
-    | inr g ↦ omega (arith, v.at_most, w.added g)
-  ];
-  idle = λ e.
-      let p = or_parts r q e in
-      let x = v.idle p.0 in
-      let y = w.idle p.1 in
-      (y.0 ∙ x.0, f (subst C (sym y.0) x.1) y.1);
-}
-
--- ---- rounds
-
-pub record Sofar (rules : List Rule) (s t : List ℕ) : Type 0 where
-  pub kept : length t ≡ length s
-  pub more : (n : Node) → NodeOn s n → NodeOn t n
-  pub sound : (from : Node) → AllReached rules from s → AllReached rules from t
-
-pub sofar_none : {rules : List Rule} {s : List ℕ} → Sofar rules s s
-sofar_none = record { kept = refl; more = λ n h. h; sound = λ from old. old }
-
-pub sofar_then : {rules : List Rule} {C : List ℕ → Type 0} {r : Bool} {s t u : List ℕ} → Sofar rules s t → Spreads (λ all. all ≡ rules) C r t u → Sofar rules s u
-sofar_then {rules} a b = record {
-  kept = b.kept ∙ a.kept;
-  more = λ n h. b.more n (a.more n h);
-  sound = λ from old. b.sound rules refl from (a.sound from old);
-}
 
 -- ---- the rules in turn
 
@@ -133,15 +71,15 @@ module _ (d e td te : Directed) (dt : td ≡ turn d) (et : te ≡ turn e) where
       Spreads (λ rules. NodeStep rules (Link td) (Link te)) (Led (Link td) (Link te)) p v w →
       Spreads (λ rules. Memᴰ (LinkWithin d e) rules) (LedBy (LinkWithin d e)) (((r || q) || o) || p) s w
   led_turned {r} {q} {o} {p} {s} {t} {u} {v} {w} a b c x =
-      spreads_then {C = λ marks. Led (Class (Start d)) (Class (Start e)) marks × Led (Class (Start (turn d))) (Class (Start (turn e))) marks × Led (Link d) (Link e) marks}
+      adds_then {C = λ marks. Led (Class (Start d)) (Class (Start e)) marks × Led (Class (Start (turn d))) (Class (Start (turn e))) marks × Led (Link d) (Link e) marks}
       {D = Led (Link (turn d)) (Link (turn e))} (λ i j. (i.0, i.1, i.2, j))
-      (spreads_then {C = λ marks. Led (Class (Start d)) (Class (Start e)) marks × Led (Class (Start (turn d))) (Class (Start (turn e))) marks} {D = Led (Link d) (Link e)} (λ i j. (i.0, i.1, j))
-      (spreads_then {C = Led (Class (Start d)) (Class (Start e))} {D = Led (Class (Start (turn d))) (Class (Start (turn e)))} (λ i j. (i, j))
-      (spreads_like {C = Led (Class (Start d)) (Class (Start e))} (λ rules m. class_step (by_link (along m))) (λ i. i) a)
-      (spreads_like {C = Led (Class (Start (turn d))) (Class (Start (turn e)))} (λ rules m. class_step (by_link (turned_step (along m)))) (λ i. i)
+      (adds_then {C = λ marks. Led (Class (Start d)) (Class (Start e)) marks × Led (Class (Start (turn d))) (Class (Start (turn e))) marks} {D = Led (Link d) (Link e)} (λ i j. (i.0, i.1, j))
+      (adds_then {C = Led (Class (Start d)) (Class (Start e))} {D = Led (Class (Start (turn d))) (Class (Start (turn e)))} (λ i j. (i, j))
+      (adds_like {C = Led (Class (Start d)) (Class (Start e))} (λ y m. class_step (by_link (along m))) (λ i. i) a)
+      (adds_like {C = Led (Class (Start (turn d))) (Class (Start (turn e)))} (λ y m. class_step (by_link (turned_step (along m)))) (λ i. i)
       (subst₂ (λ (f g : Directed). Spreads (λ rules. NodeStep rules (Class (Start f)) (Class (Start g))) (Led (Class (Start f)) (Class (Start g))) q t u) dt et b)))
-      (spreads_like {C = Led (Link d) (Link e)} (λ rules m. link_step (along m)) (λ i. i) c))
-      (spreads_like {C = Led (Link (turn d)) (Link (turn e))} (λ rules m. link_step (turned_step (along m))) (λ i. i)
+      (adds_like {C = Led (Link d) (Link e)} (λ y m. link_step (along m)) (λ i. i) c))
+      (adds_like {C = Led (Link (turn d)) (Link (turn e))} (λ y m. link_step (turned_step (along m))) (λ i. i)
       (subst₂ (λ (f g : Directed). Spreads (λ rules. NodeStep rules (Link f) (Link g)) (Led (Link f) (Link g)) p v w) dt et x))
 
 led_more : (rules : List Rule) (i : ℕ) (d : Rule) (t : List ℕ) → i < length rules → LedFirst rules i t → LedBy (get_or rules i d) t → LedFirst rules (i + 1) t
@@ -154,8 +92,8 @@ led_more rules i d t l below at k r h =
 pub led_turn : (rules : List Rule) (i : ℕ) (d : Rule) → i < length rules → {r q : Bool} {s t u : List ℕ} → Spreads (λ all. all ≡ rules) (LedFirst rules i) r s t →
     Spreads (λ all. Memᴰ (get_or rules i d) all) (LedBy (get_or rules i d)) q t u → Spreads (λ all. all ≡ rules) (LedFirst rules (i + 1)) (r || q) s u
 led_turn rules i d l {u = u} v w =
-    spreads_then {C = LedFirst rules i} {D = LedBy (get_or rules i d)} (led_more rules i d u l) v
-    (spreads_like {C = LedBy (get_or rules i d)} (λ all e. subst (Memᴰ (get_or rules i d)) (sym e) (member_at rules i d l)) (λ x. x) w)
+    adds_then {C = LedFirst rules i} {D = LedBy (get_or rules i d)} (led_more rules i d u l) v
+    (adds_like {C = LedBy (get_or rules i d)} (λ y e. subst (Memᴰ (get_or rules i d)) (sym e) (member_at rules i d l)) (λ x. x) w)
 
 -- ---- marks that no rule leads on from
 
@@ -211,12 +149,9 @@ own_kind {n = n} (then s r) = reached_on n s (own_kind r)
 
 -- ---- from one mark, all that is reached
 
-pub first_mark : (from : Node) (s t : List ℕ) → NodeFits from → length s ≡ 3 → ((n : Node) → NodeOn s n → ⊥) → Marked (node_code from) s t → (rules : List Rule) → AllReached rules from t
-first_mark from s t fits size empty m rules = marked_only from s t fits size m (Reaches (NodeStep rules) from) here (λ n h. absurd (empty n h))
-
-pub settled_tells : (rules : List Rule) (from to : Node) (s t u : List ℕ) → NodeFits from → NodeFits to → length s ≡ 3 → ((n : Node) → NodeOn s n → ⊥) → Marked (node_code from) s t → Settled rules t u →
-    (r : Bool) → bit u (node_code to) ≡ r → Decides r (Reaches (NodeStep rules) from to)
-settled_tells rules from to s t u hf ht size empty m w r e = (
-  λ yes-it. w.sound from (first_mark from s t hf size empty m rules) to (record { fits = ht; on = e ∙ yes-it }),
-  λ h. sym e ∙ (all_steps rules u w.done h (w.more from (marked_node from s t hf size m))).on,
+pub settled_tells : (rules : List Rule) (from to : Node) (s t : List ℕ) → NodeFits to → NodeOn s from → ((n : Node) → NodeOn s n → n ≡ from) → Settled rules s t →
+    (r : Bool) → r ≡ bit t (node_code to) → Decides r (Reaches (NodeStep rules) from to)
+settled_tells rules from to s t fits first alone w r e = (
+  λ yes-it. w.0.sound (rules, from) refl (λ n o. subst (Reaches (NodeStep rules) from) (sym (alone n o)) here) to (record { fits = fits; on = sym e ∙ yes-it }),
+  λ h. e ∙ (all_steps rules t w.1 h (w.0.more from first)).on,
 )

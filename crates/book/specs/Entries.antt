@@ -1,5 +1,5 @@
 -- What entering a rule into a draft answers, and what the draft then holds.
-use Rattle.std.specs.Prelude.{◌≡◌, ℕ, ◌<◌, ◌≢◌, List, [], ◌∷◌, ◌++◌, length, drop, Ok, Err, Result, slice_index_or}
+use Rattle.std.specs.Prelude.{◌≡◌, ℕ, ◌<◌, List, [], ◌∷◌, ◌++◌, length, drop, Ok, Err, Result}
 use Rattle.vocabulary.specs.Families.{Takes}
 use Rattle.vocabulary.specs.Faults.{number}
 use Rattle.vocabulary.specs.Ranges.{RuleFits}
@@ -14,10 +14,6 @@ use mathlib.Core.List.{Memᴰ}
 pub record Admitted (family : Family) (rule : Rule) : Type 0 where
   pub fits : RuleFits rule
   pub taken : Takes family rule
-
--- no rule stands twice
-abbrev pub Different : List Rule → Type 0
-Different rules = (i j : ℕ) (r : Rule) → (i < j) × (j < length rules) → slice_index_or rules i r ≢ slice_index_or rules j r
 
 -- why a rule is refused, by the number of the fault
 pub data EntryFault (family : Family) (rules : List Rule) (rule : Rule) : ℕ → Type 0 where

@@ -1,9 +1,10 @@
 -- How the two tables grow while a book is sealed, step by step.
-use Rattle.std.specs.Prelude.{◌≡◌, ℕ, ◌+◌, ◌<◌, ◌≤◌, Bool, true, false, List, length, slice_index_or}
-use Rattle.bits.specs.Relations.{On}
+use Rattle.std.specs.Prelude.{◌≡◌, ℕ, ◌+◌, ◌<◌, Bool, List, length, slice_index_or}
 use Rattle.bits.specs.Words.{unset}
-use Rattle.bits.specs.declared.relation.Relation.{Relation}
-use Rattle.theory.specs.Closure.{Excluded, classes, links}
+use Rattle.book.specs.Steps.{Adds, AllAllowed}
+use Rattle.book.specs.Tables.{PairOn}
+use Rattle.book.specs.declared.closure.Closure.{Closure}
+use Rattle.theory.specs.Closure.{Exclusion, Excluded, classes, links}
 use Rattle.vocabulary.specs.Codes.{basic_code, directed_code, turn}
 use Rattle.vocabulary.specs.Families.{LinksToo}
 use Rattle.vocabulary.specs.Ranges.{BasicFits, DirectedFits, RuleFits}
@@ -15,37 +16,40 @@ use Rattle.vocabulary.specs.declared.rules.Family.{Family}
 use Rattle.vocabulary.specs.declared.rules.Rule.{Rule}
 use Rattle.vocabulary.specs.declared.rules.Rule.TheVariants.{Within, Apart, LinkWithin, LinkApart, Single}
 
--- the words of a relation's table
-abbrev pub table : Relation → List ℕ
-table r = r.bits.words.now
+-- the words of the table of basic classes, and of that of directed links
+abbrev pub Tables : Type 0
+Tables = List ℕ × List ℕ
 
--- the relations of basic classes and of directed links
-abbrev pub Strides : Relation → Relation → Type 0
-Strides cs ls = (cs.stride ≡ 2) × (ls.stride ≡ 1)
+abbrev pub tables : Closure → Tables
+tables c = (c.classes.relation.bits.words.now, c.links.relation.bits.words.now)
 
--- the tables hold the pair, which is in range
-pub record ClassOn (basic : List ℕ) (b c : Basic) : Type 0 where
-  pub left : BasicFits b
-  pub right : BasicFits c
-  pub on : On 2 basic (basic_code b) (basic_code c)
+-- how many bits are not set
+abbrev pub left : Tables → ℕ
+left t = unset t.0 + unset t.1
 
-pub record LinkOn (table : List ℕ) (d e : Directed) : Type 0 where
-  pub left : DirectedFits d
-  pub right : DirectedFits e
-  pub on : On 1 table (directed_code d) (directed_code e)
+-- the tables hold the pair
+abbrev pub ClassOn : Tables → Basic → Basic → Type 0
+ClassOn t = PairOn BasicFits basic_code 2 t.0
 
--- all that the tables hold is in the closure
-pub record Sound (family : Family) (rules : List Rule) (basic table : List ℕ) : Type 0 where
-  pub of_classes : (b c : Basic) → ClassOn basic b c → Excluded family rules (classes b c)
-  pub of_links : (d e : Directed) → LinkOn table d e → Excluded family rules (links d e)
+abbrev pub LinkOn : Tables → Directed → Directed → Type 0
+LinkOn t = PairOn DirectedFits directed_code 1 t.1
 
--- A step of the two tables that is sound for every family and list of rules of which G holds; r says whether a bit was added.
--- Where none was, the tables are as they were, and C holds of them.
-pub record Went (G : Family → List Rule → Type 0) (C : List ℕ → List ℕ → Type 0) (r : Bool) (basic table basic' table' : List ℕ) : Type 0 where
-  pub sound : (family : Family) (rules : List Rule) → G family rules → Sound family rules basic table → Sound family rules basic' table'
-  pub at_most : unset basic' + unset table' ≤ unset basic + unset table
-  pub added : r ≡ true → unset basic' + unset table' < unset basic + unset table
-  pub idle : r ≡ false → (basic' ≡ basic) × (table' ≡ table) × C basic' table'
+-- what the tables show
+abbrev pub Shown : Tables → Exclusion → Type 0
+Shown t (classes b c) = ClassOn t b c
+Shown t (links d e) = LinkOn t d e
+
+-- what rules of a family exclude
+abbrev pub InClosure : Family × List Rule → Exclusion → Type 0
+InClosure x = Excluded x.0 x.1
+
+-- all that the tables show is in the closure
+abbrev pub Sound : Family → List Rule → Tables → Type 0
+Sound family rules = AllAllowed Shown (InClosure (family, rules))
+
+-- a step of the tables that is sound for every family and list of rules of which G holds
+abbrev pub Went : (Family → List Rule → Type 0) → (Tables → Type 0) → Bool → Tables → Tables → Type 0
+Went G = Adds Shown InClosure left (λ x. G x.0 x.1)
 
 -- a step that is sound for all rules
 abbrev pub Always : Family → List Rule → Type 0
@@ -58,42 +62,42 @@ ClassStep from to family rules = (c : Basic) → Excluded family rules (classes 
 abbrev pub LinkStep : Directed → Directed → Family → List Rule → Type 0
 LinkStep from to family rules = (e : Directed) → Excluded family rules (links to e) → Excluded family rules (links from e)
 
--- the table keeps `from` apart from all that it keeps `to` apart from
-abbrev pub ClassesPass : List ℕ → Basic → Basic → Type 0
-ClassesPass basic from to = (c : Basic) → ClassOn basic to c → ClassOn basic from c
+-- the tables keep `from` apart from all that they keep `to` apart from
+abbrev pub ClassesPass : Tables → Basic → Basic → Type 0
+ClassesPass t from to = (c : Basic) → ClassOn t to c → ClassOn t from c
 
-abbrev pub LinksPass : List ℕ → Directed → Directed → Type 0
-LinksPass table from to = (e : Directed) → LinkOn table to e → LinkOn table from e
+abbrev pub LinksPass : Tables → Directed → Directed → Type 0
+LinksPass t from to = (e : Directed) → LinkOn t to e → LinkOn t from e
 
 -- the rule has nothing to add
-abbrev pub Done : Rule → List ℕ → List ℕ → Type 0
-Done (Within b c) basic table = ClassesPass basic b c
-Done (Apart b c) basic table = ClassOn basic b c
-Done (LinkWithin d e) basic table =
-    ClassesPass basic (Start d) (Start e) × ClassesPass basic (Start (turn d)) (Start (turn e)) × LinksPass table d e × LinksPass table (turn d) (turn e)
-Done (LinkApart d e) basic table = LinkOn table d e × LinkOn table (turn d) (turn e)
-Done (Single d) basic table = Unit {0}
+abbrev pub Done : Rule → Tables → Type 0
+Done (Within b c) t = ClassesPass t b c
+Done (Apart b c) t = ClassOn t b c
+Done (LinkWithin d e) t =
+    ClassesPass t (Start d) (Start e) × ClassesPass t (Start (turn d)) (Start (turn e)) × LinksPass t d e × LinksPass t (turn d) (turn e)
+Done (LinkApart d e) t = LinkOn t d e × LinkOn t (turn d) (turn e)
+Done (Single d) t = Unit {0}
 
 -- none of the first n rules has anything to add
-abbrev pub DoneFirst : List Rule → ℕ → List ℕ → List ℕ → Type 0
-DoneFirst rules n basic table = (k : ℕ) (r : Rule) → k < n → Done (slice_index_or rules k r) basic table
+abbrev pub DoneFirst : List Rule → ℕ → Tables → Type 0
+DoneFirst rules n t = (k : ℕ) (r : Rule) → k < n → Done (slice_index_or rules k r) t
 
 -- that the link is empty at its end, or as a link, is known at its start; and at its start, as a link
-abbrev pub EndKnown : Directed → List ℕ → List ℕ → Type 0
-EndKnown d basic table = ClassOn basic (Start (turn d)) (Start (turn d)) → ClassOn basic (Start d) (Start d)
+abbrev pub EndKnown : Directed → Tables → Type 0
+EndKnown d t = ClassOn t (Start (turn d)) (Start (turn d)) → ClassOn t (Start d) (Start d)
 
-abbrev pub LinkKnown : Directed → List ℕ → List ℕ → Type 0
-LinkKnown d basic table = LinkOn table d d → ClassOn basic (Start d) (Start d)
+abbrev pub LinkKnown : Directed → Tables → Type 0
+LinkKnown d t = LinkOn t d d → ClassOn t (Start d) (Start d)
 
-abbrev pub StartKnown : Family → Directed → List ℕ → List ℕ → Type 0
-StartKnown family d basic table = LinksToo family → ClassOn basic (Start d) (Start d) → LinkOn table d d
+abbrev pub StartKnown : Family → Directed → Tables → Type 0
+StartKnown family d t = LinksToo family → ClassOn t (Start d) (Start d) → LinkOn t d d
 
-abbrev pub EmptyKnown : Family → Directed → List ℕ → List ℕ → Type 0
-EmptyKnown family d basic table = EndKnown d basic table × LinkKnown d basic table × StartKnown family d basic table
+abbrev pub EmptyKnown : Family → Directed → Tables → Type 0
+EmptyKnown family d t = EndKnown d t × LinkKnown d t × StartKnown family d t
 
 -- of each link with a number below n, in both directions
-abbrev pub EmptyKnownBelow : Family → ℕ → List ℕ → List ℕ → Type 0
-EmptyKnownBelow family n basic table = (k : ℕ) → k < n → EmptyKnown family (Forward (record { 0 = k })) basic table × EmptyKnown family (Backward (record { 0 = k })) basic table
+abbrev pub EmptyKnownBelow : Family → ℕ → Tables → Type 0
+EmptyKnownBelow family n t = (k : ℕ) → k < n → EmptyKnown family (Forward (record { 0 = k })) t × EmptyKnown family (Backward (record { 0 = k })) t
 
 -- every rule fits
 abbrev pub AllFit : List Rule → Type 0
@@ -103,5 +107,5 @@ AllFit rules = (k : ℕ) (r : Rule) → k < length rules → RuleFits (slice_ind
 abbrev pub Of : Family → List Rule → Family → List Rule → Type 0
 Of family rules f all = (f ≡ family) × (all ≡ rules)
 
-abbrev pub AllDone : Family → List Rule → List ℕ → List ℕ → Type 0
-AllDone family rules basic table = DoneFirst rules (length rules) basic table × EmptyKnownBelow family 32 basic table
+abbrev pub AllDone : Family → List Rule → Tables → Type 0
+AllDone family rules t = DoneFirst rules (length rules) t × EmptyKnownBelow family 32 t

@@ -1,6 +1,7 @@
 -- Marks on basic classes and directed links: what the within rules lead to from one of them.
-use Rattle.std.specs.Prelude.{◌≡◌, ℕ, ◌+◌, ◌<◌, ◌≤◌, Bool, true, false, List, length, slice_index_or}
+use Rattle.std.specs.Prelude.{◌≡◌, ℕ, ◌+◌, ◌<◌, Bool, true, List, length, slice_index_or}
 use Rattle.bits.specs.Words.{bit, unset}
+use Rattle.book.specs.Steps.{Adds, Extends}
 use Rattle.book.specs.declared.reach.Node.{Node}
 use Rattle.book.specs.declared.reach.Node.TheVariants.{Class, Link}
 use Rattle.theory.specs.Reaching.{LinkStep, Reaches, Step}
@@ -31,19 +32,13 @@ pub record NodeOn (marks : List ℕ) (n : Node) : Type 0 where
   pub fits : NodeFits n
   pub on : bit marks (node_code n) ≡ true
 
--- all that is marked is reached
-abbrev pub AllReached : List Rule → Node → List ℕ → Type 0
-AllReached rules from marks = (n : Node) → NodeOn marks n → Reaches (NodeStep rules) from n
+-- what rules reach from a node
+abbrev pub ReachedBy : List Rule × Node → Node → Type 0
+ReachedBy x = Reaches (NodeStep x.0) x.1
 
--- A step of the marks that is sound for every list of rules of which G holds; r says whether a mark was added.
--- Where none was, the marks are as they were, and C holds of them.
-pub record Spreads (G : List Rule → Type 0) (C : List ℕ → Type 0) (r : Bool) (s t : List ℕ) : Type 0 where
-  pub kept : length t ≡ length s
-  pub more : (n : Node) → NodeOn s n → NodeOn t n
-  pub sound : (rules : List Rule) → G rules → (from : Node) → AllReached rules from s → AllReached rules from t
-  pub at_most : unset t ≤ unset s
-  pub added : r ≡ true → unset t < unset s
-  pub idle : r ≡ false → (t ≡ s) × C t
+-- a step of the marks that is sound for every list of rules of which G holds, from every node
+abbrev pub Spreads : (List Rule → Type 0) → (List ℕ → Type 0) → Bool → List ℕ → List ℕ → Type 0
+Spreads G = Adds NodeOn ReachedBy unset (λ x. G x.0)
 
 -- a mark on one is a mark on the other
 abbrev pub Led : Node → Node → List ℕ → Type 0
@@ -64,9 +59,10 @@ LedBy (Single d) marks = Unit {0}
 abbrev pub LedFirst : List Rule → ℕ → List ℕ → Type 0
 LedFirst rules n marks = (k : ℕ) (r : Rule) → k < n → LedBy (slice_index_or rules k r) marks
 
--- from s to t: no mark is lost, what is new is reached, and no rule leads to anything more
-pub record Settled (rules : List Rule) (s t : List ℕ) : Type 0 where
-  pub kept : length t ≡ length s
-  pub more : (n : Node) → NodeOn s n → NodeOn t n
-  pub sound : (from : Node) → AllReached rules from s → AllReached rules from t
-  pub done : LedFirst rules (length rules) t
+-- from s to t no mark is lost and what is new is reached, by these rules from any node
+abbrev pub Reaching : List Rule → List ℕ → List ℕ → Type 0
+Reaching rules = Extends NodeOn ReachedBy (λ x. x.0 ≡ rules)
+
+-- and after, no rule leads to anything more
+abbrev pub Settled : List Rule → List ℕ → List ℕ → Type 0
+Settled rules s t = Reaching rules s t × LedFirst rules (length rules) t

@@ -1,6 +1,6 @@
 -- What the two closure tables of a book hold: 256 words for basic classes, two to a row, and 64 for directed links, one to a row.
 use Rattle.std.specs.Prelude.{ℕ, Bool, List, Decides}
-use Rattle.bits.specs.Relations.{pair}
+use Rattle.bits.specs.Relations.{On, pair}
 use Rattle.theory.specs.Closure.{Excluded, classes, links}
 use Rattle.vocabulary.specs.Codes.{basic_code, directed_code}
 use Rattle.vocabulary.specs.Ranges.{BasicFits, DirectedFits}
@@ -8,6 +8,12 @@ use Rattle.vocabulary.specs.declared.basic.Basic.{Basic}
 use Rattle.vocabulary.specs.declared.basic.Directed.{Directed}
 use Rattle.vocabulary.specs.declared.rules.Family.{Family}
 use Rattle.vocabulary.specs.declared.rules.Rule.{Rule}
+
+-- a table with `stride` words to a row holds the pair, which is in range
+pub record PairOn {K : Type 0} (Fits : K → Type 0) (code : K → ℕ) (stride : ℕ) (words : List ℕ) (x y : K) : Type 0 where
+  pub first : Fits x
+  pub second : Fits y
+  pub on : On stride words (code x) (code y)
 
 -- the bit of two basic classes: for codes b and k, bit k % 64 of word 2 * b + k / 64
 abbrev pub class_bit : List ℕ → Basic → Basic → Bool

@@ -1,8 +1,9 @@
 //! A sealed book: its rules and their exclusion closure.
 
 ghost use Rattle.book.specs.Answers.{Answered};
-ghost use Rattle.book.specs.Entries.{Admitted, Different};
-ghost use Rattle.book.specs.Tables.{HoldsClosure};
+ghost use Rattle.book.specs.Entries.{Admitted};
+ghost use Rattle.book.specs.Tables.{HoldsClosure, PairOn};
+ghost use Rattle.distinct.specs.Repeats.{Different};
 ghost use Rattle.std.specs.Prelude.{◌≡◌, length, Decides};
 ghost use Rattle.theory.specs.Closure.{Excluded, classes, links};
 ghost use Rattle.theory.specs.Following.{Empty, Implied};
@@ -14,6 +15,13 @@ use bits::relation::related;
 use vocabulary::basic::{Basic, Coded, Directed};
 use vocabulary::faults::Fault;
 use vocabulary::rules::{Family, Rule};
+
+/// Whether a table has the bit of two values, which it has of no value out of range.
+fn shown<K: Coded, const STRIDE: u8>(words: &[u64], x: K, y: K) -> bool
+    ensures { Decides result (PairOn K.fitting K.number STRIDE words.now x y) }
+{
+    x.fits() && y.fits() && related::<STRIDE>(words, x.index(), y.index())
+}
 
 /// It is shared and can be copied, and nobody can write to what it shows: it takes no more rules.
 #[derive(Clone, Copy)]
@@ -47,20 +55,14 @@ impl<'a> Book<'a> {
     pub fn classes_apart(&self, b: Basic, c: Basic) -> bool
         ensures { Decides result (Excluded self.now.family self.now.rules.now (classes b c)) }
     {
-        if !b.fits() || !c.fits() {
-            return false;
-        }
-        related(self.basic, 2, b.index(), c.index())
+        shown::<Basic, 2>(self.basic, b, c)
     }
 
     /// Whether the pair of two directed links is in the exclusion closure; a pair out of range never is.
     pub fn links_apart(&self, d: Directed, e: Directed) -> bool
         ensures { Decides result (Excluded self.now.family self.now.rules.now (links d e)) }
     {
-        if !d.fits() || !e.fits() {
-            return false;
-        }
-        related(self.linked, 1, d.index(), e.index())
+        shown::<Directed, 1>(self.linked, d, e)
     }
 
     /// Whether every world that keeps the book keeps the rule, which may be of any form whatever the family; or the range fault.

@@ -1,204 +1,213 @@
 //! The exclusion closure of a book, found by letting every rule add what it gives until none adds anything.
 
-ghost use Rattle.std.specs.Prelude.{◌≡◌, ℕ, List, length};
-ghost use Rattle.book.specs.Growth.{AllDone, AllFit, Always, ClassOn, ClassStep, ClassesPass, Done, DoneFirst, EmptyKnown, EmptyKnownBelow, EndKnown, LinkKnown, LinkOn, LinkStep, LinksPass, Of, Sound, StartKnown, Strides, Went, table};
+ghost use Rattle.bits.specs.Relations.{Inherits, Joins, On};
+ghost use Rattle.book.specs.Growth.{AllDone, AllFit, Always, Done, DoneFirst, EmptyKnown, EmptyKnownBelow, EndKnown, LinkKnown, Of, StartKnown, Went, tables};
 ghost use Rattle.book.specs.Tables.{HoldsClosure};
-ghost use Rattle.theory.specs.Closure.{Excluded, classes, links};
-ghost use Rattle.vocabulary.specs.Ranges.{BasicFits, DirectedFits, RuleFits};
+ghost use Rattle.std.specs.Prelude.{◌≡◌, ◌*◌, ℕ, length, Decides};
+ghost use Rattle.vocabulary.specs.Ranges.{DirectedFits, RuleFits};
 ghost use mathlib.Core.List.{Memᴰ};
 
 use bits::relation::Relation;
+use std::marker::PhantomData;
 use vocabulary::basic::{Basic, Coded, Directed};
 use vocabulary::numbers::Link;
 use vocabulary::rules::{Family, Rule};
 
-/// Keeps `from` apart from all that `to` is kept apart from, and says whether that is anything new.
-fn narrow(basic: &mut Relation<'_>, from: Basic, to: Basic) -> bool
-    requires { (BasicFits from) × ((BasicFits to) × (basic.old.stride ≡ 2)) }
-    ensures stride { basic.new.stride ≡ 2 }
-    ensures went { (other : List ℕ) → Went (ClassStep from to) (λ words _. ClassesPass words from to) result (table basic.old) other (table basic.new) other }
-{
-    basic.inherit(from.index(), to.index())
+/// The pairs of one kind that are kept apart, as a relation on their codes.
+#[derive(Drop)]
+struct Apart<'a, K, const STRIDE: u8> {
+    relation: Relation<'a, STRIDE>,
+    kind: PhantomData<K>,
 }
 
-/// The same for directed links.
-fn narrow_link(linked: &mut Relation<'_>, from: Directed, to: Directed) -> bool
-    requires { (DirectedFits from) × ((DirectedFits to) × (linked.old.stride ≡ 1)) }
-    ensures stride { linked.new.stride ≡ 1 }
-    ensures went { (other : List ℕ) → Went (LinkStep from to) (λ _ words. LinksPass words from to) result other (table linked.old) other (table linked.new) }
-{
-    linked.inherit(from.index(), to.index())
-}
-
-/// Keeps two basic classes apart, and says whether that is new.
-fn exclude(basic: &mut Relation<'_>, b: Basic, c: Basic) -> bool
-    requires { (BasicFits b) × ((BasicFits c) × (basic.old.stride ≡ 2)) }
-    ensures stride { basic.new.stride ≡ 2 }
-    ensures went { (other : List ℕ) → Went (λ family rules. Excluded family rules (classes b c)) (λ words _. ClassOn words b c) result (table basic.old) other (table basic.new) other }
-{
-    basic.add(b.index(), c.index())
-}
-
-/// The same for directed links.
-fn exclude_link(linked: &mut Relation<'_>, d: Directed, e: Directed) -> bool
-    requires { (DirectedFits d) × ((DirectedFits e) × (linked.old.stride ≡ 1)) }
-    ensures stride { linked.new.stride ≡ 1 }
-    ensures went { (other : List ℕ) → Went (λ family rules. Excluded family rules (links d e)) (λ _ words. LinkOn words d e) result other (table linked.old) other (table linked.new) }
-{
-    linked.add(d.index(), e.index())
-}
-
-/// A link within another: what holds of its pairs, of where it starts and of where it ends.
-fn apply_link_within(
-    d: Directed,
-    e: Directed,
-    basic: &mut Relation<'_>,
-    linked: &mut Relation<'_>,
-) -> bool
-    requires { (DirectedFits d) × ((DirectedFits e) × (Strides basic.old linked.old)) }
-    ensures strides { Strides basic.new linked.new }
-    ensures went { Went (λ _ rules. Memᴰ (Rule.LinkWithin d e) rules) (Done (Rule.LinkWithin d e)) result (table basic.old) (table linked.old) (table basic.new) (table linked.new) }
-{
-    let back = d.turn();
-    let wide = e.turn();
-    let mut any = narrow(basic, Basic::Start(d), Basic::Start(e));
-    any |= narrow(basic, Basic::Start(back), Basic::Start(wide));
-    any |= narrow_link(linked, d, e);
-    any |= narrow_link(linked, back, wide);
-    any
-}
-
-/// Lets one rule add what it gives, and says whether that is anything new.
-fn apply(rule: Rule, basic: &mut Relation<'_>, linked: &mut Relation<'_>) -> bool
-    requires { (RuleFits rule) × (Strides basic.old linked.old) }
-    ensures strides { Strides basic.new linked.new }
-    ensures went { Went (λ _ rules. Memᴰ rule rules) (Done rule) result (table basic.old) (table linked.old) (table basic.new) (table linked.new) }
-{
-    match rule {
-        Rule::Within(b, c) => narrow(basic, b, c),
-        Rule::Apart(b, c) => exclude(basic, b, c),
-        Rule::LinkWithin(d, e) => apply_link_within(d, e, basic, linked),
-        Rule::LinkApart(d, e) => {
-            let mut any = exclude_link(linked, d, e);
-            any |= exclude_link(linked, d.turn(), e.turn());
-            any
+impl<'a, K: Coded, const STRIDE: u8> Apart<'a, K, STRIDE> {
+    /// No pair, whatever the words hold.
+    fn none(words: &'a mut [u64]) -> Apart<'a, K, STRIDE>
+        requires { length words.old ≡ 64 * (STRIDE * STRIDE) }
+        ensures { (a b : ℕ) → On STRIDE result.relation.bits.words.now a b → ⊥ }
+    {
+        Apart {
+            relation: Relation::none(words),
+            kind: PhantomData,
         }
-        Rule::Single(_) => false,
+    }
+
+    /// Whether two are kept apart.
+    fn has(&self, x: K, y: K) -> bool
+        ensures { Decides result (On STRIDE self.now.relation.bits.words.now (K.number x) (K.number y)) }
+    {
+        self.relation.has(x.index(), y.index())
+    }
+
+    /// Keeps two apart, and says whether that is new.
+    fn exclude(&mut self, x: K, y: K) -> bool
+        ensures { Joins STRIDE (K.number x) (K.number y) result self.old.relation.bits.words.now self.new.relation.bits.words.now }
+    {
+        self.relation.add(x.index(), y.index())
+    }
+
+    /// Keeps `from` apart from all that `to` is kept apart from, and says whether that is anything new.
+    fn narrow(&mut self, from: K, to: K) -> bool
+        ensures { Inherits STRIDE (K.number from) (K.number to) result self.old.relation.bits.words.now self.new.relation.bits.words.now }
+    {
+        self.relation.inherit(from.index(), to.index())
+    }
+
+    /// The words, for as long as they are lent.
+    fn into_words(self) -> &'a [u64]
+        ensures { result.now ≡ self.entry.relation.bits.words.now }
+    {
+        let Apart { relation, kind: _ } = self;
+        relation.into_words()
     }
 }
 
-/// A link that has no end has no start.
-fn spread_end(d: Directed, basic: &mut Relation<'_>) -> bool
-    requires { (DirectedFits d) × (basic.old.stride ≡ 2) }
-    ensures stride { basic.new.stride ≡ 2 }
-    ensures went { (other : List ℕ) → Went Always (EndKnown d) result (table basic.old) other (table basic.new) other }
-{
-    let end = Basic::Start(d.turn()).index();
-    if basic.has(end, end) {
-        exclude(basic, Basic::Start(d), Basic::Start(d))
-    } else {
-        false
+/// What is found of the closure: the basic classes and the directed links that are kept apart.
+#[derive(Drop)]
+pub(crate) struct Closure<'a> {
+    classes: Apart<'a, Basic, 2>,
+    links: Apart<'a, Directed, 1>,
+}
+
+impl<'a> Closure<'a> {
+    /// The exclusion closure of the rules, in two tables of any content: rounds until one adds nothing.
+    pub(crate) fn of(
+        family: Family,
+        rules: &[Rule],
+        basic: &'a mut [u64],
+        linked: &'a mut [u64],
+    ) -> Closure<'a>
+        requires { (AllFit rules.now) × ((length basic.old ≡ 256) × (length linked.old ≡ 64)) }
+        ensures { HoldsClosure family rules.now (tables result).0 (tables result).1 }
+    {
+        let mut closure = Closure {
+            classes: Apart::none(basic),
+            links: Apart::none(linked),
+        };
+        while closure.round(family, rules) {}
+        closure
     }
-}
 
-/// A link that has no pair has no start.
-fn spread_link(d: Directed, basic: &mut Relation<'_>, linked: &Relation<'_>) -> bool
-    requires { (DirectedFits d) × (Strides basic.old linked.now) }
-    ensures stride { basic.new.stride ≡ 2 }
-    ensures went { Went Always (LinkKnown d) result (table basic.old) (table linked.now) (table basic.new) (table linked.now) }
-{
-    let code = d.index();
-    if linked.has(code, code) {
-        exclude(basic, Basic::Start(d), Basic::Start(d))
-    } else {
-        false
+    /// The two tables, for as long as they are lent.
+    pub(crate) fn into_words(self) -> (&'a [u64], &'a [u64])
+        ensures { (result.0.now ≡ (tables self.entry).0) × (result.1.now ≡ (tables self.entry).1) }
+    {
+        let Closure { classes, links } = self;
+        (classes.into_words(), links.into_words())
     }
-}
 
-/// A link that has no start has no pair, which some families put into the closure.
-fn spread_start(
-    family: Family,
-    d: Directed,
-    basic: &Relation<'_>,
-    linked: &mut Relation<'_>,
-) -> bool
-    requires { (DirectedFits d) × (Strides basic.now linked.old) }
-    ensures stride { linked.new.stride ≡ 1 }
-    ensures went { Went (λ f _. f ≡ family) (StartKnown family d) result (table basic.now) (table linked.old) (table basic.now) (table linked.new) }
-{
-    let start = Basic::Start(d).index();
-    if family.links_too() && basic.has(start, start) {
-        exclude_link(linked, d, d)
-    } else {
-        false
+    /// One round: every rule, then every directed link.
+    fn round(&mut self, family: Family, rules: &[Rule]) -> bool
+        requires { AllFit rules.now }
+        ensures { Went (Of family rules.now) (AllDone family rules.now) result (tables self.old) (tables self.new) }
+    {
+        let mut any = self.apply_all(rules);
+        any |= self.spread_all(family);
+        any
     }
-}
 
-/// Lets one directed link that is known to be empty be known so everywhere, and says whether that is anything new.
-fn spread(family: Family, d: Directed, basic: &mut Relation<'_>, linked: &mut Relation<'_>) -> bool
-    requires { (DirectedFits d) × (Strides basic.old linked.old) }
-    ensures strides { Strides basic.new linked.new }
-    ensures went { Went (λ f _. f ≡ family) (EmptyKnown family d) result (table basic.old) (table linked.old) (table basic.new) (table linked.new) }
-{
-    let mut any = spread_end(d, basic);
-    any |= spread_link(d, basic, linked);
-    any |= spread_start(family, d, basic, linked);
-    any
-}
-
-/// One round: every rule, then every directed link.
-fn round(
-    family: Family,
-    rules: &[Rule],
-    basic: &mut Relation<'_>,
-    linked: &mut Relation<'_>,
-) -> bool
-    requires { (AllFit rules.now) × (Strides basic.old linked.old) }
-    ensures strides { Strides basic.new linked.new }
-    ensures went { Went (Of family rules.now) (AllDone family rules.now) result (table basic.old) (table linked.old) (table basic.new) (table linked.new) }
-{
-    let mut any = apply_all(rules, basic, linked);
-    any |= spread_all(family, basic, linked);
-    any
-}
-
-/// Every rule adds what it gives.
-fn apply_all(rules: &[Rule], basic: &mut Relation<'_>, linked: &mut Relation<'_>) -> bool
-    requires { (AllFit rules.now) × (Strides basic.old linked.old) }
-    ensures strides { Strides basic.new linked.new }
-    ensures went { Went (λ _ all. all ≡ rules.now) (DoneFirst rules.now (length rules.now)) result (table basic.old) (table linked.old) (table basic.new) (table linked.new) }
-{
-    let mut any = false;
-    for rule in rules {
-        any |= apply(*rule, basic, linked);
+    /// Every rule adds what it gives.
+    fn apply_all(&mut self, rules: &[Rule]) -> bool
+        requires { AllFit rules.now }
+        ensures { Went (λ _ all. all ≡ rules.now) (DoneFirst rules.now (length rules.now)) result (tables self.old) (tables self.new) }
+    {
+        let mut any = false;
+        for rule in rules {
+            any |= self.apply(*rule);
+        }
+        any
     }
-    any
-}
 
-/// Every directed link that is known to be empty is known so everywhere.
-fn spread_all(family: Family, basic: &mut Relation<'_>, linked: &mut Relation<'_>) -> bool
-    requires { Strides basic.old linked.old }
-    ensures strides { Strides basic.new linked.new }
-    ensures went { Went (λ f _. f ≡ family) (EmptyKnownBelow family 32) result (table basic.old) (table linked.old) (table basic.new) (table linked.new) }
-{
-    let mut any = false;
-    for number in 0..32u8 {
-        any |= spread(family, Directed::Forward(Link(number)), basic, linked);
-        any |= spread(family, Directed::Backward(Link(number)), basic, linked);
+    /// Lets one rule add what it gives, and says whether that is anything new.
+    fn apply(&mut self, rule: Rule) -> bool
+        requires { RuleFits rule }
+        ensures { Went (λ _ rules. Memᴰ rule rules) (Done rule) result (tables self.old) (tables self.new) }
+    {
+        match rule {
+            Rule::Within(b, c) => self.classes.narrow(b, c),
+            Rule::Apart(b, c) => self.classes.exclude(b, c),
+            Rule::LinkWithin(d, e) => self.apply_link_within(d, e),
+            Rule::LinkApart(d, e) => {
+                let mut any = self.links.exclude(d, e);
+                any |= self.links.exclude(d.turn(), e.turn());
+                any
+            }
+            Rule::Single(_) => false,
+        }
     }
-    any
-}
 
-/// The exclusion closure, from empty tables: rounds until one adds nothing.
-pub(crate) fn close(
-    family: Family,
-    rules: &[Rule],
-    basic: &mut Relation<'_>,
-    linked: &mut Relation<'_>,
-)
-    requires { (AllFit rules.now) × ((Strides basic.old linked.old) × (Sound family rules.now (table basic.old) (table linked.old))) }
-    ensures strides { Strides basic.new linked.new }
-    ensures closure { HoldsClosure family rules.now (table basic.new) (table linked.new) }
-{
-    while round(family, rules, basic, linked) {}
+    /// A link within another: what holds of its pairs, of where it starts and of where it ends.
+    fn apply_link_within(&mut self, d: Directed, e: Directed) -> bool
+        requires { (DirectedFits d) × (DirectedFits e) }
+        ensures { Went (λ _ rules. Memᴰ (Rule.LinkWithin d e) rules) (Done (Rule.LinkWithin d e)) result (tables self.old) (tables self.new) }
+    {
+        let back = d.turn();
+        let wide = e.turn();
+        let mut any = self.classes.narrow(Basic::Start(d), Basic::Start(e));
+        any |= self.classes.narrow(Basic::Start(back), Basic::Start(wide));
+        any |= self.links.narrow(d, e);
+        any |= self.links.narrow(back, wide);
+        any
+    }
+
+    /// Every directed link that is known to be empty is known so everywhere.
+    fn spread_all(&mut self, family: Family) -> bool
+        ensures { Went (λ f _. f ≡ family) (EmptyKnownBelow family 32) result (tables self.old) (tables self.new) }
+    {
+        let mut any = false;
+        for number in 0..32u8 {
+            any |= self.spread(family, Directed::Forward(Link(number)));
+            any |= self.spread(family, Directed::Backward(Link(number)));
+        }
+        any
+    }
+
+    /// Lets one directed link that is known to be empty be known so everywhere, and says whether that is anything new.
+    fn spread(&mut self, family: Family, d: Directed) -> bool
+        requires { DirectedFits d }
+        ensures { Went (λ f _. f ≡ family) (EmptyKnown family d) result (tables self.old) (tables self.new) }
+    {
+        let mut any = self.spread_end(d);
+        any |= self.spread_link(d);
+        any |= self.spread_start(family, d);
+        any
+    }
+
+    /// A link that has no end has no start.
+    fn spread_end(&mut self, d: Directed) -> bool
+        requires { DirectedFits d }
+        ensures { Went Always (EndKnown d) result (tables self.old) (tables self.new) }
+    {
+        let end = Basic::Start(d.turn());
+        if self.classes.has(end, end) {
+            self.classes.exclude(Basic::Start(d), Basic::Start(d))
+        } else {
+            false
+        }
+    }
+
+    /// A link that has no pair has no start.
+    fn spread_link(&mut self, d: Directed) -> bool
+        requires { DirectedFits d }
+        ensures { Went Always (LinkKnown d) result (tables self.old) (tables self.new) }
+    {
+        if self.links.has(d, d) {
+            self.classes.exclude(Basic::Start(d), Basic::Start(d))
+        } else {
+            false
+        }
+    }
+
+    /// A link that has no start has no pair, which some families put into the closure.
+    fn spread_start(&mut self, family: Family, d: Directed) -> bool
+        requires { DirectedFits d }
+        ensures { Went (λ f _. f ≡ family) (StartKnown family d) result (tables self.old) (tables self.new) }
+    {
+        let start = Basic::Start(d);
+        if family.links_too() && self.classes.has(start, start) {
+            self.links.exclude(d, d)
+        } else {
+            false
+        }
+    }
 }

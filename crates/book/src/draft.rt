@@ -1,17 +1,17 @@
 //! A draft of a book, which takes rules until it is sealed.
 
-ghost use Rattle.book.specs.Entries.{Admitted, Different, Entered, left_free};
+ghost use Rattle.book.specs.Entries.{Admitted, Entered, left_free};
 ghost use Rattle.book.specs.Passes.{Sized};
 ghost use Rattle.book.specs.Tables.{HoldsClosure};
 ghost use Rattle.distinct.specs.Items.{items, spare};
+ghost use Rattle.distinct.specs.Repeats.{Different};
 ghost use Rattle.std.specs.List.{AllByRecursion};
 ghost use Rattle.std.specs.Prelude.{◌≡◌, [], length};
 
 use crate::book::Book;
-use crate::closure::close;
+use crate::closure::Closure;
 use crate::pass::Pass;
-use bits::relation::Relation;
-use distinct::{Distinct, Put};
+use distinct::Distinct;
 use vocabulary::effects::Effect;
 use vocabulary::faults::Fault;
 use vocabulary::rules::{Family, Rule};
@@ -64,11 +64,12 @@ impl<'a> Draft<'a> {
         if !self.family.takes(rule) {
             return Err(Fault::Form);
         }
-        match self.rules.put(rule) {
-            Put::Added => Ok(Effect::Changed),
-            Put::Stands => Ok(Effect::Unchanged),
-            Put::Full => Err(Fault::BookFull),
-        }
+        let new = self.rules.put(rule).map_err(|_| Fault::BookFull)?;
+        Ok(if new {
+            Effect::Changed
+        } else {
+            Effect::Unchanged
+        })
     }
 
     /// The sealed book: the draft is used up, and its rules stay as they are.
@@ -84,14 +85,12 @@ impl<'a> Draft<'a> {
             linked,
         } = self;
         let rules = rules.into_items();
-        let mut basic = Relation::none(basic, 2);
-        let mut linked = Relation::none(linked, 1);
-        close(family, rules, &mut basic, &mut linked);
+        let (basic, linked) = Closure::of(family, rules, basic, linked).into_words();
         Book {
             family,
             rules,
-            basic: basic.into_words(),
-            linked: linked.into_words(),
+            basic,
+            linked,
         }
     }
 }

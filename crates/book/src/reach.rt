@@ -1,7 +1,8 @@
 //! What the within rules lead to: marks on basic classes and directed links, until no rule adds one.
 
+ghost use Rattle.bits.specs.Words.{bit};
 ghost use Rattle.book.specs.Growth.{AllFit};
-ghost use Rattle.book.specs.Reach.{Led, LedBy, LedFirst, NodeFits, NodeStep, Settled, Spreads, node_code};
+ghost use Rattle.book.specs.Reach.{Led, LedBy, LedFirst, NodeFits, NodeOn, NodeStep, Settled, Spreads, node_code};
 ghost use Rattle.std.specs.Prelude.{◌≡◌, length, Decides};
 ghost use Rattle.theory.specs.Reaching.{Reaches};
 ghost use Rattle.vocabulary.specs.Ranges.{DirectedFits, RuleFits};
@@ -30,73 +31,92 @@ impl Node {
     }
 }
 
-/// Marks `to` if `from` is marked, and says whether that is new.
-fn lead(from: Node, to: Node, marks: &mut Bits<'_>) -> bool
-    requires { (NodeFits from) × ((NodeFits to) × (length marks.old.words.now ≡ 3)) }
-    ensures { Spreads (λ rules. NodeStep rules from to) (Led from to) result marks.old.words.now marks.new.words.now }
-{
-    let m = to.index();
-    if !get(marks.words(), from.index()) || get(marks.words(), m) {
-        return false;
+/// Marks on nodes, a bit for each.
+#[derive(Drop)]
+struct Marks<'a> {
+    bits: Bits<'a>,
+    ghost sized: { length bits.words.now ≡ 3 },
+}
+
+impl<'a> Marks<'a> {
+    /// A mark on one node alone, in words of any content.
+    fn on(words: &'a mut [u64], n: Node) -> Marks<'a>
+        requires { (length words.old ≡ 3) × (NodeFits n) }
+        ensures marked { NodeOn result.bits.words.now n }
+        ensures alone { (m : Node) → NodeOn result.bits.words.now m → m ≡ n }
+    {
+        let mut bits = Bits::clear(words);
+        bits.set(n.index());
+        Marks { bits }
     }
-    marks.set(m);
-    true
-}
 
-/// Lets a link within another lead on, as a link and from where it starts and ends.
-fn lead_link(d: Directed, e: Directed, marks: &mut Bits<'_>) -> bool
-    requires { (DirectedFits d) × ((DirectedFits e) × (length marks.old.words.now ≡ 3)) }
-    ensures { Spreads (λ rules. Memᴰ (Rule.LinkWithin d e) rules) (LedBy (Rule.LinkWithin d e)) result marks.old.words.now marks.new.words.now }
-{
-    let back = d.turn();
-    let wide = e.turn();
-    let mut any = lead(
-        Node::Class(Basic::Start(d)),
-        Node::Class(Basic::Start(e)),
-        marks,
-    );
-    any |= lead(
-        Node::Class(Basic::Start(back)),
-        Node::Class(Basic::Start(wide)),
-        marks,
-    );
-    any |= lead(Node::Link(d), Node::Link(e), marks);
-    any |= lead(Node::Link(back), Node::Link(wide), marks);
-    any
-}
-
-/// Lets one rule lead on, and says whether it led to anything new.
-fn lead_by(rule: Rule, marks: &mut Bits<'_>) -> bool
-    requires { (RuleFits rule) × (length marks.old.words.now ≡ 3) }
-    ensures { Spreads (λ rules. Memᴰ rule rules) (LedBy rule) result marks.old.words.now marks.new.words.now }
-{
-    match rule {
-        Rule::Within(b, c) => lead(Node::Class(b), Node::Class(c), marks),
-        Rule::LinkWithin(d, e) => lead_link(d, e, marks),
-        Rule::Apart(_, _) => false,
-        Rule::LinkApart(_, _) => false,
-        Rule::Single(_) => false,
+    /// Whether a node is marked.
+    fn has(&self, n: Node) -> bool
+        ensures { result ≡ bit self.now.bits.words.now (node_code n) }
+    {
+        get(self.bits.words(), n.index())
     }
-}
 
-/// Lets every rule lead on once.
-fn lead_all(rules: &[Rule], marks: &mut Bits<'_>) -> bool
-    requires { (AllFit rules.now) × (length marks.old.words.now ≡ 3) }
-    ensures { Spreads (λ all. all ≡ rules.now) (LedFirst rules.now (length rules.now)) result marks.old.words.now marks.new.words.now }
-{
-    let mut any = false;
-    for rule in rules {
-        any |= lead_by(*rule, marks);
+    /// Marks `to` if `from` is marked, and says whether that is new.
+    fn lead(&mut self, from: Node, to: Node) -> bool
+        requires { (NodeFits from) × (NodeFits to) }
+        ensures { Spreads (λ rules. NodeStep rules from to) (Led from to) result self.old.bits.words.now self.new.bits.words.now }
+    {
+        if !self.has(from) || self.has(to) {
+            return false;
+        }
+        self.bits.set(to.index());
+        true
     }
-    any
-}
 
-/// Lets all rules lead on until none leads to anything new.
-fn settle(rules: &[Rule], marks: &mut Bits<'_>)
-    requires { (AllFit rules.now) × (length marks.old.words.now ≡ 3) }
-    ensures { Settled rules.now marks.old.words.now marks.new.words.now }
-{
-    while lead_all(rules, marks) {}
+    /// Lets a link within another lead on, as a link and from where it starts and ends.
+    fn lead_link(&mut self, d: Directed, e: Directed) -> bool
+        requires { (DirectedFits d) × (DirectedFits e) }
+        ensures { Spreads (λ rules. Memᴰ (Rule.LinkWithin d e) rules) (LedBy (Rule.LinkWithin d e)) result self.old.bits.words.now self.new.bits.words.now }
+    {
+        let back = d.turn();
+        let wide = e.turn();
+        let mut any = self.lead(Node::Class(Basic::Start(d)), Node::Class(Basic::Start(e)));
+        any |= self.lead(
+            Node::Class(Basic::Start(back)),
+            Node::Class(Basic::Start(wide)),
+        );
+        any |= self.lead(Node::Link(d), Node::Link(e));
+        any |= self.lead(Node::Link(back), Node::Link(wide));
+        any
+    }
+
+    /// Lets one rule lead on, and says whether it led to anything new.
+    fn lead_by(&mut self, rule: Rule) -> bool
+        requires { RuleFits rule }
+        ensures { Spreads (λ rules. Memᴰ rule rules) (LedBy rule) result self.old.bits.words.now self.new.bits.words.now }
+    {
+        match rule {
+            Rule::Within(b, c) => self.lead(Node::Class(b), Node::Class(c)),
+            Rule::LinkWithin(d, e) => self.lead_link(d, e),
+            Rule::Apart(_, _) | Rule::LinkApart(_, _) | Rule::Single(_) => false,
+        }
+    }
+
+    /// Lets every rule lead on once.
+    fn lead_all(&mut self, rules: &[Rule]) -> bool
+        requires { AllFit rules.now }
+        ensures { Spreads (λ all. all ≡ rules.now) (LedFirst rules.now (length rules.now)) result self.old.bits.words.now self.new.bits.words.now }
+    {
+        let mut any = false;
+        for rule in rules {
+            any |= self.lead_by(*rule);
+        }
+        any
+    }
+
+    /// Lets all rules lead on until none leads to anything new.
+    fn settle(&mut self, rules: &[Rule])
+        requires { AllFit rules.now }
+        ensures { Settled rules.now self.old.bits.words.now self.new.bits.words.now }
+    {
+        while self.lead_all(rules) {}
+    }
 }
 
 /// Whether the within rules lead from one node to another, in any number of steps or none.
@@ -105,8 +125,7 @@ pub(crate) fn reaches(rules: &[Rule], from: Node, to: Node) -> bool
     ensures { Decides result (Reaches (NodeStep rules.now) from to) }
 {
     let mut words = [0u64; 3];
-    let mut marks = Bits::clear(&mut words);
-    marks.set(from.index());
-    settle(rules, &mut marks);
-    get(marks.words(), to.index())
+    let mut marks = Marks::on(&mut words, from);
+    marks.settle(rules);
+    marks.has(to)
 }

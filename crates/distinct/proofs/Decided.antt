@@ -1,13 +1,12 @@
 -- An equality whose answer is a function that decides whether two elements are the same: what the list promises by that answer, said of sameness.
-use Rattle.std.proofs.Common.{◌≡◌, Bool, true, false, List, Decides, sym, subst}
+use Rattle.std.proofs.Common.{◌≡◌, Bool, true, false, List, Decides, Ok, Err, Result, sym, subst}
 use Rattle.distinct.proofs.Sameness.{Same, member_told}
 use Rattle.distinct.specs.Items.{items}
 use Rattle.distinct.specs.Puts.{Outcome}
 use Rattle.distinct.specs.Removals.{Removal, Without}
 use Rattle.distinct.specs.Repeats.{Absent, Answers, NoRepeats, Present}
 use Rattle.distinct.specs.declared.Distinct.{Distinct}
-use Rattle.distinct.specs.declared.Put.{Put}
-use Rattle.distinct.specs.declared.Put.TheVariants.{Added, Full, Stands}
+use Rattle.distinct.specs.declared.Full.{Full}
 use Rattle.std.specs.Bool.{one_answer}
 use Rattle.std.specs.List.{IsAnyAnswer}
 use Rattle.std.specs.Prelude.{MatchBool}
@@ -27,10 +26,10 @@ module _ {X : Type 0} {E F : X → X → Bool → Type 0} (like : (x y : X) (r :
   pub no_repeats_like : (xs : List X) → NoRepeats E xs → NoRepeats F xs
   no_repeats_like xs h i j d l = like _ _ false (h i j d l)
 
-  pub outcome_like : (s t : Distinct X) (x : X) (r : Put) → Outcome E s x t r → Outcome F s x t r
-  outcome_like s t x Added o = (absent_like (items s) x o.0, o.1, o.2, o.3)
-  outcome_like s t x Stands o = (present_like (items s) x o.0, o.1, o.2)
-  outcome_like s t x Full o = (absent_like (items s) x o.0, o.1, o.2, o.3)
+  pub outcome_like : (s t : Distinct X) (x : X) (r : Result Bool Full) → Outcome E s x t r → Outcome F s x t r
+  outcome_like s t x (Ok true) o = (absent_like (items s) x o.0, o.1, o.2, o.3)
+  outcome_like s t x (Ok false) o = (present_like (items s) x o.0, o.1, o.2)
+  outcome_like s t x (Err full) o = (absent_like (items s) x o.0, o.1, o.2, o.3)
 
   pub without_like : {x : X} {xs ys : List X} → Without E x xs ys → Without F x xs ys
   without_like {x} w = record {
@@ -57,8 +56,12 @@ module _ {X : Type 0} (eq : X → X → Bool) (decides : (x y : X) → Decides (
   pub has_same : (xs : List X) (x : X) (r : Bool) → MatchBool r (Present (Answers eq) xs x) (Absent (Answers eq) xs x) → MatchBool r (Present Same xs x) (Absent Same xs x)
   has_same = has_like answers_same
 
-  pub outcome_same : (s t : Distinct X) (x : X) (r : Put) → Outcome (Answers eq) s x t r → Outcome Same s x t r
+  pub outcome_same : (s t : Distinct X) (x : X) (r : Result Bool Full) → Outcome (Answers eq) s x t r → Outcome Same s x t r
   outcome_same = outcome_like answers_same
+
+  -- the same, where it is known what the put answered
+  pub outcome_told : (s t : Distinct X) (x : X) {r told : Result Bool Full} → r ≡ told → Outcome (Answers eq) s x t r → Outcome Same s x t told
+  outcome_told s t x e o = subst (Outcome Same s x t) e (outcome_same s t x _ o)
 
   pub removal_same : (s t : Distinct X) (x : X) (r : Bool) → Removal (Answers eq) s x t r → Removal Same s x t r
   removal_same = removal_like answers_same

@@ -1,13 +1,12 @@
 -- Elements whose `==` answers whether they are the same: what the list says of them is then about members.
-use Rattle.std.proofs.Common.{◌≡◌, ℕ, suc, ◌-◌, Bool, true, false, List, [], ◌∷◌, ◌++◌, length, get_or, Decides, MatchBool, sym, refl, ap, ◌∙◌, subst, inl, inr, arith, length-append}
+use Rattle.std.proofs.Common.{◌≡◌, ℕ, suc, ◌-◌, Bool, true, false, List, [], ◌∷◌, ◌++◌, length, get_or, Decides, MatchBool, Ok, Err, Result, sym, refl, ap, ◌∙◌, subst, inl, inr, arith, length-append}
 use Rattle.distinct.proofs.Members.{member_at, place_of}
 use Rattle.distinct.specs.Items.{items}
 use Rattle.distinct.specs.Puts.{Outcome}
 use Rattle.distinct.specs.Removals.{Removal, Without}
 use Rattle.distinct.specs.Repeats.{Absent, Different, NoRepeats, Present}
 use Rattle.distinct.specs.declared.Distinct.{Distinct}
-use Rattle.distinct.specs.declared.Put.{Put}
-use Rattle.distinct.specs.declared.Put.TheVariants.{Added, Full, Stands}
+use Rattle.distinct.specs.declared.Full.{Full}
 use Rattle.std.proofs.ByRecursion.{All-append, All-push}
 use Rattle.std.proofs.lemmas.List.{get_or-append_right}
 use Rattle.std.proofs.lemmas.Bool.{false≢true}
@@ -48,10 +47,10 @@ pub repeats_different : {X : Type 0} (xs : List X) → NoRepeats Same xs → Dif
 repeats_different xs h i j d l e = false≢true ((h i j d l).1 e)
 
 -- what putting an element keeps of all items, whatever became of it
-pub all_put : {X : Type 0} (E : X → X → Bool → Type 0) (P : X → Type 0) (s t : Distinct X) (x : X) (r : Put) → Outcome E s x t r → P x → AllByRecursion P (items s) → AllByRecursion P (items t)
-all_put E P s t x Added o p h = subst (AllByRecursion P) (sym o.2) (All-push P (items s) x h p)
-all_put E P s t x Stands o p h = subst (AllByRecursion P) (sym o.1) h
-all_put E P s t x Full o p h = subst (AllByRecursion P) (sym o.2) h
+pub all_put : {X : Type 0} (E : X → X → Bool → Type 0) (P : X → Type 0) (s t : Distinct X) (x : X) (r : Result Bool Full) → Outcome E s x t r → P x → AllByRecursion P (items s) → AllByRecursion P (items t)
+all_put E P s t x (Ok true) o p h = subst (AllByRecursion P) (sym o.2) (All-push P (items s) x h p)
+all_put E P s t x (Ok false) o p h = subst (AllByRecursion P) (sym o.1) h
+all_put E P s t x (Err full) o p h = subst (AllByRecursion P) (sym o.2) h
 
 -- that no element stands twice is a proposition, so it comes out of a ghost field that says that some proof shows it
 pub different_had : {X : Type 0} (xs : List X) → ∥ Different xs ∥₁ → Different xs

@@ -8,16 +8,9 @@ ghost use Rattle.distinct.specs.Puts.{Outcome};
 ghost use Rattle.distinct.specs.Removals.{FirstPlace, Removal};
 ghost use Rattle.distinct.specs.Repeats.{Absent, Answers, NoRepeats, Present};
 
-/// What became of an element that was put into the list.
+/// The error that no place is free.
 #[derive(Clone, Copy, PartialEq, Eq)]
-pub enum Put {
-    /// It is the last item now.
-    Added,
-    /// An item equals it already.
-    Stands,
-    /// No item equals it, and no place is free.
-    Full,
-}
+pub struct Full;
 
 /// The items lie in the first places, in the order in which they came; later places keep what they held.
 #[derive(Drop)]
@@ -71,8 +64,8 @@ impl<'a, T> Distinct<'a, T> {
         self.items().contains(x)
     }
 
-    /// Puts `x` behind the items, unless one of them equals it or no place is free.
-    pub fn put(&mut self, x: T) -> Put
+    /// Puts `x` behind the items and says true, or says false where an item equals it already.
+    pub fn put(&mut self, x: T) -> Result<bool, Full>
     where
         T: PartialEq + Copy,
         ensures outcome { Outcome (Answers T.PartialEq.eq) self.old x self.new result }
@@ -81,15 +74,15 @@ impl<'a, T> Distinct<'a, T> {
         ensures distinct { NoRepeats (Answers T.PartialEq.eq) (items self.old) → NoRepeats (Answers T.PartialEq.eq) (items self.new) }
     {
         if self.has(&x) {
-            return Put::Stands;
+            return Ok(false);
         }
         let n = self.len;
         if n >= self.places.len() {
-            return Put::Full;
+            return Err(Full);
         }
         self.places[n] = x;
         self.len = n + 1;
-        Put::Added
+        Ok(true)
     }
 
     /// The place of the first item that equals `x`.
@@ -98,13 +91,7 @@ impl<'a, T> Distinct<'a, T> {
         T: PartialEq,
         ensures { FirstPlace (Answers T.PartialEq.eq) (items self.now) x.now result }
     {
-        let items = self.items();
-        for i in 0..items.len() {
-            if items[i] == *x {
-                return Some(i);
-            }
-        }
-        None
+        self.items().iter().position(|y| y == x)
     }
 
     /// Takes out the first item that equals `x`, and says whether there was one; those behind it move up by a place.

@@ -1,5 +1,5 @@
 -- The places of a list store's table: how many facts there are, by what lies behind them, and what it takes.
-use Rattle.std.proofs.Common.{◌≡◌, ℕ, ◌+◌, ◌<◌, ◌≢◌, List, [], length, take, drop, ap, inl, inr, arith, length-drop, length-take}
+use Rattle.std.proofs.Common.{◌≡◌, ℕ, ◌+◌, ◌<◌, ◌≢◌, List, [], length, take, drop, refl, ap, inl, inr, arith, length-drop, length-take}
 use Rattle.facts.specs.Changes.{Kept}
 use Rattle.std.proofs.lemmas.List.{drop_all}
 use Rattle.std.proofs.lemmas.Bool.{cases_lt}
@@ -26,3 +26,7 @@ kept places after xs ys room same = record {
   list = same;
   takes = λ g. (λ h. omega (arith, ap length same), λ h. omega (arith, ap length same));
 }
+
+-- a store that nothing was done to
+pub untouched : {T : List Fact → Fact → Type 0} {xs : List Fact} → Kept T T xs xs
+untouched = record { list = refl; takes = λ g. (λ h. h, λ h. h) }

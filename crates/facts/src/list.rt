@@ -14,7 +14,7 @@ ghost use Rattle.vocabulary.specs.Ranges.{FactFits};
 
 use crate::pass::ListPass;
 use crate::source::{Source, Store};
-use distinct::{Distinct, Put};
+use distinct::Distinct;
 use vocabulary::effects::Effect;
 use vocabulary::facts::Fact;
 use vocabulary::faults::Fault;
@@ -80,11 +80,12 @@ impl Store for ListStore<'_> {
         if !fact.fits() {
             return Err(Fault::Range);
         }
-        match self.held.put(fact) {
-            Put::Added => Ok(Effect::Changed),
-            Put::Stands => Ok(Effect::Unchanged),
-            Put::Full => Err(Fault::NotTaken),
-        }
+        let new = self.held.put(fact).map_err(|_| Fault::NotTaken)?;
+        Ok(if new {
+            Effect::Changed
+        } else {
+            Effect::Unchanged
+        })
     }
 
     fn withdraw(&mut self, fact: Fact) -> Result<Effect, Fault>

@@ -1,9 +1,10 @@
 -- What a rule makes of an atom, and how two atoms merge, computed by cases: this is what the relations say.
 use Rattle.std.proofs.Common.{◌≡◌, ℕ, Bool, true, false, cond, eqb, List, [], ◌∷◌, Some, None, Option, sym, refl, ap, ◌∙◌, subst, arith, eq-eqb}
 use Rattle.vocabulary.specs.Equality.{class_same, link_same}
-use Rattle.question.specs.Steps.{Made, MergesAs, made_by, unless_fails, merging_classes, merging_links, merging, merges_to}
+use Rattle.question.specs.Steps.{Made, MergesAs, made_by, merging_classes, merging_links, merging, merges_to}
 use Rattle.question.specs.declared.merging.Merger.{Merger}
 use Rattle.std.proofs.lemmas.Bool.{cond-true}
+use Rattle.std.specs.Option.{option_and_then, option_map}
 use Rattle.theory.specs.Rewritings.{about, joining, unify, apply, filled, unify_second, Agrees, Becomes, narrower, starts, ends, links, turned, Merges, classes, pairs}
 use Rattle.vocabulary.specs.declared.basic.Basic.TheVariants.{Named, Start}
 use Rattle.vocabulary.specs.declared.basic.Directed.TheVariants.{Forward, Backward}
@@ -13,7 +14,7 @@ use Rattle.vocabulary.specs.declared.questions.Atom.TheVariants.{IsIn, Joins}
 use Rattle.vocabulary.specs.declared.questions.Atom.{Atom}
 use Rattle.vocabulary.specs.declared.questions.Term.TheVariants.{Variable, Constant, Open}
 use Rattle.vocabulary.specs.declared.questions.Term.{Term}
-use Rattle.vocabulary.specs.declared.questions.Unifier.TheVariants.{Fails, Trivial, Binds}
+use Rattle.vocabulary.specs.declared.questions.Unifier.TheVariants.{Trivial}
 use Rattle.vocabulary.specs.declared.questions.Unifier.{Unifier}
 use Rattle.vocabulary.specs.declared.rules.Rule.TheVariants.{Within, Apart, LinkWithin, LinkApart, Single}
 use Rattle.vocabulary.specs.declared.rules.Rule.{Rule}
@@ -76,32 +77,56 @@ made_complete rules (links {d = d} {l = l} {t = t} {u = u} m) = record { rule = 
 made_complete rules (turned {d = d} {l = l} {t = t} {u = u} m) = record { rule = LinkWithin d (Backward l); stands = m; made = itself l.0 (Some (joining d u t)) }
 
 -- what `merging` says is how atoms merge
-unless_some : (k : Unifier) (o : Option Merger) (m : Merger) → unless_fails k o ≡ Some m → Agrees k × (o ≡ Some m)
-unless_some Fails o m e = absurd (some_none (sym e))
-unless_some Trivial o m e = (tt, e)
-unless_some (Binds n t) o m e = (tt, e)
+first_some : (a : Atom) (o : Option Unifier) (m : Merger) → option_map (λ k. record { atom = a; first = k; second = Trivial }) o ≡ Some m → Agrees o × (m.atom ≡ a) × (merges_to m ≡ apply o)
+first_some a None m e = absurd (some_none (sym e))
+first_some a (Some k) m e = (tt, sym (ap (λ (g : Merger). g.atom) (some_same e)), sym (ap merges_to (some_same e)))
 
-unless_not : (k : Unifier) (o : Option Merger) → Agrees k → unless_fails k o ≡ o
-unless_not Fails o h = absurd h
-unless_not Trivial o h = refl
-unless_not (Binds n t) o h = refl
+first_made : (a : Atom) (o : Option Unifier) → Agrees o → (m : Merger) × (option_map (λ k. record { atom = a; first = k; second = Trivial }) o ≡ Some m) × (m.atom ≡ a) × (merges_to m ≡ apply o)
+first_made a None h = absurd h
+first_made a (Some k) h = (record { atom = a; first = k; second = Trivial }, refl, refl, refl)
+
+-- by what makes the second terms equal after the first
+abbrev both_made : Atom → Unifier → Option Unifier → Option Merger
+both_made a k o = option_map (λ j. record { atom = a; first = k; second = j }) o
+
+both_some : (a : Atom) (k : Unifier) (o : Option Unifier) (m : Merger) → both_made a k o ≡ Some m → Agrees o × (m.atom ≡ a) × (merges_to m ≡ λ t. apply o (apply (Some k) t))
+both_some a k None m e = absurd (some_none (sym e))
+both_some a k (Some j) m e = (tt, sym (ap (λ (g : Merger). g.atom) (some_same e)), sym (ap merges_to (some_same e)))
+
+both_of : (a : Atom) (k : Unifier) (o : Option Unifier) → Agrees o → (m : Merger) × (both_made a k o ≡ Some m) × (m.atom ≡ a) × (merges_to m ≡ λ t. apply o (apply (Some k) t))
+both_of a k None h = absurd h
+both_of a k (Some j) h = (record { atom = a; first = k; second = j }, refl, refl, refl)
+
+second_some : (a : Atom) (u w : Term) (o : Option Unifier) (m : Merger) → option_and_then (λ k. both_made a k (unify (apply (Some k) u) (apply (Some k) w))) o ≡ Some m →
+    Agrees o × Agrees (unify (apply o u) (apply o w)) × (m.atom ≡ a) × (merges_to m ≡ λ t. apply (unify (apply o u) (apply o w)) (apply o t))
+second_some a u w None m e = absurd (some_none (sym e))
+second_some a u w (Some k) m e =
+    let (j, at, all) = both_some a k (unify (apply (Some k) u) (apply (Some k) w)) m e in
+    (tt, j, at, all)
+
+second_made : (a : Atom) (u w : Term) (o : Option Unifier) → Agrees o → Agrees (unify (apply o u) (apply o w)) →
+    (m : Merger) × (option_and_then (λ k. both_made a k (unify (apply (Some k) u) (apply (Some k) w))) o ≡ Some m) × (m.atom ≡ a) × (merges_to m ≡ λ t. apply (unify (apply o u) (apply o w)) (apply o t))
+second_made a u w None h i = absurd h
+second_made a u w (Some k) h i = both_of a k (unify (apply (Some k) u) (apply (Some k) w)) i
+
+-- the same merger in other words
+merges_like : (a b : Atom) {c d : Atom} {f g : Term → Term} → c ≡ d → f ≡ g → Merges a b d g → Merges a b c f
+merges_like a b {d = d} {f = f} e h m = subst (λ (x : Atom). Merges a b x f) (sym e) (subst (λ (k : Term → Term). Merges a b d k) (sym h) m)
 
 pub merging_sound : (a b : Atom) (m : Merger) → merging a b ≡ Some m → Merges a b m.atom (merges_to m)
 unfolding merging_links
 merging_sound (IsIn c t) (IsIn d u) m e =
     let h = if_some (eqb c.0 d.0) (merging_classes c t u) m e in
-    let k = unless_some (unify t u) (Some (record { atom = IsIn c (filled t u); first = unify t u; second = Trivial })) m h.1 in
-    subst (λ (n : Merger). Merges (IsIn c t) (IsIn d u) n.atom (merges_to n)) (some_same k.1)
-    (subst (λ (n : Class). Merges (IsIn c t) (IsIn n u) (IsIn c (filled t u)) (apply (unify t u))) ((class_same c d).0 h.0) (classes k.0))
+    let (k, at, all) = first_some (IsIn c (filled t u)) (unify t u) m h.1 in
+    merges_like (IsIn c t) (IsIn d u) at all
+    (subst (λ (n : Class). Merges (IsIn c t) (IsIn n u) (IsIn c (filled t u)) (apply (unify t u))) ((class_same c d).0 h.0) (classes k))
 merging_sound (IsIn c t) (Joins l u v) m e = absurd (some_none (sym e))
 merging_sound (Joins l t u) (IsIn c v) m e = absurd (some_none (sym e))
 merging_sound (Joins l t u) (Joins n v w) m e =
     let h = if_some (eqb l.0 n.0) (merging_links l t u v w) m e in
-    let o : Merger = record { atom = Joins l (filled t v) (filled u w); first = unify t v; second = unify_second t v u w } in
-    let k = unless_some (unify t v) (unless_fails (unify_second t v u w) (Some o)) m h.1 in
-    let j = unless_some (unify_second t v u w) (Some o) m k.1 in
-    subst (λ (g : Merger). Merges (Joins l t u) (Joins n v w) g.atom (merges_to g)) (some_same j.1)
-    (subst (λ (g : Link). Merges (Joins l t u) (Joins g v w) o.atom (merges_to o)) ((link_same l n).0 h.0) (pairs k.0 j.0))
+    let (k, j, at, all) = second_some (Joins l (filled t v) (filled u w)) u w (unify t v) m h.1 in
+    merges_like (Joins l t u) (Joins n v w) at all
+    (subst (λ (g : Link). Merges (Joins l t u) (Joins g v w) (Joins l (filled t v) (filled u w)) (λ y. apply (unify_second t v u w) (apply (unify t v) y))) ((link_same l n).0 h.0) (pairs k j))
 
 pub record MergingIs (a b c : Atom) (f : Term → Term) : Type 0 where
   pub merger : Merger
@@ -112,16 +137,11 @@ pub record MergingIs (a b c : Atom) (f : Term → Term) : Type 0 where
 pub merging_complete : {a b c : Atom} {f : Term → Term} → Merges a b c f → MergingIs a b c f
 unfolding merging_links
 merging_complete (classes {c = c} {t = t} {t' = u} h) =
-    let o : Merger = record { atom = IsIn c (filled t u); first = unify t u; second = Trivial } in
-    record { merger = o; made = itself c.0 (merging_classes c t u) ∙ unless_not (unify t u) (Some o) h; atom = refl; all = refl }
+    let (m, e, at, all) = first_made (IsIn c (filled t u)) (unify t u) h in
+    record { merger = m; made = itself c.0 (merging_classes c t u) ∙ e; atom = at; all = all }
 merging_complete (pairs {l = l} {t = t} {t' = v} {u = u} {u' = w} h k) =
-    let o : Merger = record { atom = Joins l (filled t v) (filled u w); first = unify t v; second = unify_second t v u w } in
-    record {
-      merger = o;
-      made = itself l.0 (merging_links l t u v w) ∙ unless_not (unify t v) (unless_fails (unify_second t v u w) (Some o)) h ∙ unless_not (unify_second t v u w) (Some o) k;
-      atom = refl;
-      all = refl;
-    }
+    let (m, e, at, all) = second_made (Joins l (filled t v) (filled u w)) u w (unify t v) h k in
+    record { merger = m; made = itself l.0 (merging_links l t u v w) ∙ e; atom = at; all = all }
 
 -- the two computed answers are all there is
 pub made_all : (rule : Rule) (a : Atom) (o : Option Atom) → o ≡ made_by rule a → Made rule a o

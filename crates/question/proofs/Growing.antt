@@ -1,13 +1,12 @@
 -- Tables grow by sets of questions, one set after another.
-use Rattle.std.proofs.Common.{◌≡◌, ℕ, ◌+◌, ◌<◌, ◌⊎◌, Bool, Decides, List, [], ◌∷◌, ◌++◌, map, length, drop, Some, None, Ok, Err, Result, sym, refl, ap, ◌∙◌, subst, inl, inr, ⊎_elim, append_assoc, append-nil, arith, length-append, below_more}
+use Rattle.std.proofs.Common.{◌≡◌, ℕ, ◌+◌, ◌<◌, ◌⊎◌, Bool, true, false, Decides, List, [], ◌∷◌, ◌++◌, map, length, drop, Some, None, Ok, Err, Result, sym, refl, ap, ◌∙◌, subst, inl, inr, ⊎_elim, append_assoc, append-nil, arith, length-append, below_more}
 use Rattle.distinct.proofs.Members.{member_at, place_of}
 use Rattle.distinct.specs.Items.{items, spare}
 use Rattle.distinct.specs.Puts.{Outcome}
 use Rattle.distinct.specs.Repeats.{Absent, Answers, NoRepeats, Present}
 use Rattle.distinct.specs.declared.Distinct.{Distinct}
 use Rattle.distinct.proofs.Decided.{no_repeats_like, outcome_like}
-use Rattle.distinct.specs.declared.Put.{Put}
-use Rattle.distinct.specs.declared.Put.TheVariants.{Added, Full, Stands}
+use Rattle.distinct.specs.declared.Full.{Full}
 use Rattle.question.proofs.Exact.{some_none, some_same}
 use Rattle.question.specs.Growth.{Below, ByMerge, ByRule, Filled, Grown, Overfull, Same, Taken, atom_at, rows}
 use Rattle.question.specs.Records.{query, query_eq, query_eq_same}
@@ -17,7 +16,6 @@ use Rattle.question.specs.declared.record.Record.{Record}
 use Rattle.std.proofs.lemmas.Bool.Decides.{same_from_decides}
 use Rattle.std.proofs.lemmas.List.{drop-drop, map_push}
 use Rattle.std.proofs.lemmas.Bool.{false≢true}
-use Rattle.theory.proofs.Lists.{map_in, map_out}
 use Rattle.theory.specs.Questions.{Query}
 use Rattle.theory.specs.Tidying.{tidy}
 use Rattle.vocabulary.specs.Faults.{number}
@@ -38,37 +36,38 @@ answers_same x y r h = subst (λ (b : Bool). Decides b (query x ≡ query y)) (s
 same_answers : (x y : Record) (r : Bool) → Same x y r → Answers record_eq x y r
 same_answers x y r h = same_from_decides r (record_eq x y) h (query_eq_same (query x) (query y))
 
-pub put_same : (s t : Distinct Record) (x : Record) (r : Put) → Outcome (Answers record_eq) s x t r → Outcome Same s x t r
-put_same = outcome_like answers_same
+pub put_same : (s t : Distinct Record) (x : Record) {r told : Result Bool Full} → r ≡ told → Outcome (Answers record_eq) s x t r → Outcome Same s x t told
+put_same s t x e o = subst (Outcome Same s x t) e (outcome_like answers_same s t x _ o)
 
 pub kept_same : (xs ys : List Record) → (NoRepeats (Answers record_eq) xs → NoRepeats (Answers record_eq) ys) → NoRepeats Same xs → NoRepeats Same ys
 kept_same xs ys keeps h = no_repeats_like answers_same ys (keeps (no_repeats_like same_answers xs h))
 
 -- what the list without repeats says of records, said of their questions
 present_row : (rs : List Record) (r : Record) → Present Same rs r → Memᴰ (query r) (map query rs)
-present_row rs r (i, l, e) = subst (λ (q : Query). Memᴰ q (map query rs)) ((e r).0 refl) (map_in query (member_at rs i r l))
+present_row rs r (i, l, e) = subst (λ (q : Query). Memᴰ q (map query rs)) ((e r).0 refl) (Memᴰ.map query (member_at rs i r l))
 
 absent_row : (rs : List Record) (r : Record) → Absent Same rs r → Memᴰ (query r) (map query rs) → ⊥
 absent_row rs r h m =
-    let (y, k, e) = map_out query rs m in
+    let (y, k, e) = Memᴰ.of_map query rs m in
     let (i, l, f) = place_of k in
-    false≢true ((h i r l).1 (ap query (f r) ∙ sym e))
+    false≢true ((h i r l).1 (ap query (f r) ∙ e))
 
 -- nothing is put in
-grown_none : (S : Query → Type 0) (s t : Distinct Record) → items t ≡ items s → spare t ≡ spare s → length t.places.now ≡ length s.places.now → Grown S s t
-grown_none S s t e f n = record {
+grown_none : (S : Query → Type 0) (s t : Distinct Record) → items t ≡ items s → spare t ≡ spare s → length t.places.now ≡ length s.places.now → t.places.ghost_name ≡ s.places.ghost_name → Grown S s t
+grown_none S s t e f n l = record {
   more = [];
   is = ap (map query) e ∙ sym (append-nil (rows s));
   sound = λ x k. elim k [ ];
   apart = λ d. subst (NoRepeats Same) (sym e) d;
   left = f;
   size = n;
+  lent = l;
 }
 
 -- one question is put in: it is new, it stands already, or there is no place for it
-pub taken_added : (s t : Distinct Record) (r : Record) (q : Query) → query r ≡ q → Outcome Same s r t Added → (NoRepeats Same (items s) → NoRepeats Same (items t)) →
-    length t.places.now ≡ length s.places.now → Filled (λ x. x ≡ q) s t
-taken_added s t r q e o d n =
+pub taken_put : (s t : Distinct Record) (r : Record) (q : Query) → query r ≡ q → (new : Bool) → Outcome Same s r t (Ok new) → (NoRepeats Same (items s) → NoRepeats Same (items t)) →
+    length t.places.now ≡ length s.places.now → t.places.ghost_name ≡ s.places.ghost_name → Filled (λ x. x ≡ q) s t
+taken_put s t r q e true o d n l =
     let more : rows t ≡ rows s ++ query r ∷ [] = ap (map query) o.2 ∙ map_push query (items s) r in
     record {
       grown = record {
@@ -78,19 +77,18 @@ taken_added s t r q e o d n =
         apart = d;
         left = o.3;
         size = n;
+        lent = l;
       };
       has = λ x p. subst (λ (ys : List Query). Memᴰ x ys) (sym more) (Memᴰ.append_right (rows s) (Memᴰ.head (p ∙ sym e)));
     }
-
-pub taken_stands : (s t : Distinct Record) (r : Record) (q : Query) → query r ≡ q → Outcome Same s r t Stands → length t.places.now ≡ length s.places.now → Filled (λ x. x ≡ q) s t
-taken_stands s t r q e o n = record {
-  grown = grown_none (λ x. x ≡ q) s t o.1 o.2 n;
+taken_put s t r q e false o d n l = record {
+  grown = grown_none (λ x. x ≡ q) s t o.1 o.2 n l;
   has = λ x p. Memᴰ.cast (p ∙ sym e) (subst (λ (rs : List Record). Memᴰ (query r) (map query rs)) (sym o.1) (present_row (items s) r o.0));
 }
 
-pub taken_full : (s t : Distinct Record) (r : Record) (q : Query) → query r ≡ q → Outcome Same s r t Full → length t.places.now ≡ length s.places.now → Overfull (λ x. x ≡ q) s t
-taken_full s t r q e o n = record {
-  grown = grown_none (λ x. x ≡ q) s t o.2 o.3 n;
+pub taken_full : (s t : Distinct Record) (r : Record) (q : Query) → query r ≡ q → {full : Full} → Outcome Same s r t (Err full) → length t.places.now ≡ length s.places.now → t.places.ghost_name ≡ s.places.ghost_name → Overfull (λ x. x ≡ q) s t
+taken_full s t r q e {full} o n l = record {
+  grown = grown_none (λ x. x ≡ q) s t o.2 o.3 n l;
   full = o.3 ∙ o.1;
   another = query r;
   one = e;
@@ -99,21 +97,17 @@ taken_full s t r q e o n = record {
 
 -- nothing is put in, of an empty set
 filled_none : (S : Query → Type 0) (t : Distinct Record) → ((x : Query) → S x → ⊥) → Filled S t t
-filled_none S t empty = record { grown = grown_none S t t refl refl refl; has = λ x e. absurd (empty x e) }
+filled_none S t empty = record { grown = grown_none S t t refl refl refl refl; has = λ x e. absurd (empty x e) }
 
 -- the same set in other words
 grown_set : (S U : Query → Type 0) (s t : Distinct Record) → ((x : Query) → S x → U x) → Grown S s t → Grown U s t
-grown_set S U s t to g = record { more = g.more; is = g.is; sound = λ x k. to x (g.sound x k); apart = g.apart; left = g.left; size = g.size }
+grown_set S U s t to g = record { more = g.more; is = g.is; sound = λ x k. to x (g.sound x k); apart = g.apart; left = g.left; size = g.size; lent = g.lent }
 
 filled_set : (S U : Query → Type 0) (s t : Distinct Record) → ((x : Query) → S x → U x) → ((x : Query) → U x → S x) → Filled S s t → Filled U s t
 filled_set S U s t to from f = record { grown = grown_set S U s t to f.grown; has = λ x u. f.has x (from x u) }
 
 overfull_set : (S U : Query → Type 0) (s t : Distinct Record) → ((x : Query) → S x → U x) → Overfull S s t → Overfull U s t
 overfull_set S U s t to o = record { grown = grown_set S U s t to o.grown; full = o.full; another = o.another; one = to o.another o.one; absent = o.absent }
-
-taken_set : {X : Type 0} (S U : Query → Type 0) (s t : Distinct Record) (o : Result X Fault) → ((x : Query) → S x → U x) → ((x : Query) → U x → S x) → Taken S s t o → Taken U s t o
-taken_set S U s t (Ok x) to from f = filled_set S U s t to from f
-taken_set S U s t (Err f) to from k = (k.0, overfull_set S U s t to k.1)
 
 -- one set after another
 grown_then : (S S' U : Query → Type 0) (s t u : Distinct Record) → ((x : Query) → S x → U x) → ((x : Query) → S' x → U x) → Grown S s t → Grown S' t u → Grown U s u
@@ -125,6 +119,7 @@ grown_then S S' U s t u left right a b = record {
   left = b.left ∙ ap (drop (length b.more)) a.left ∙ drop-drop (length b.more) (length a.more) (spare s)
       ∙ ap (λ (n : ℕ). drop n (spare s)) (sym (length-append a.more b.more));
   size = b.size ∙ a.size;
+  lent = b.lent ∙ a.lent;
 }
 
 filled_then : (S S' U : Query → Type 0) (s t u : Distinct Record) →
@@ -162,26 +157,37 @@ overfull_next P k l s t u h f o =
     overfull_then (Below P k) (P k) (Below P l) s t u (λ x b. record { place = b.place; low = omega (arith, b.low); what = b.what }) (λ x p. record { place = k; low = h; what = p }) f o
 
 -- one rule at one atom
-pub taken_ruled : {X : Type 0} (rule : Rule) (p : Query) (i : ℕ) (a b : Atom) (r : Query) (s t : Distinct Record) (o : Result X Fault) →
-    a ≡ atom_at p i → Some b ≡ made_by rule a → r ≡ replaced_by p i b → Taken (λ x. x ≡ tidy r) s t o → Taken (ByRule rule p i) s t o
-taken_ruled rule p i a b r s t o at made e k =
-    taken_set (λ x. x ≡ tidy r) (ByRule rule p i) s t o
-    (λ x h. record { atom = b; made = ap (made_by rule) (sym at) ∙ sym made; is = h ∙ ap tidy e })
-    (λ x w. let same : w.atom ≡ b = some_same (sym w.made ∙ ap (made_by rule) (sym at) ∙ sym made) in
-    w.is ∙ ap (λ (c : Atom). tidy (replaced_by p i c)) same ∙ sym (ap tidy e))
-    k
+module _ (rule : Rule) (p : Query) (i : ℕ) (a b : Atom) (r : Query) (s t : Distinct Record) (at : a ≡ atom_at p i) (made : Some b ≡ made_by rule a) (e : r ≡ replaced_by p i b) where
+  ruled_to : (x : Query) → x ≡ tidy r → ByRule rule p i x
+  ruled_to x h = record { atom = b; made = ap (made_by rule) (sym at) ∙ sym made; is = h ∙ ap tidy e }
+
+  ruled_from : (x : Query) → ByRule rule p i x → x ≡ tidy r
+  ruled_from x w =
+      let same : w.atom ≡ b = some_same (sym w.made ∙ ap (made_by rule) (sym at) ∙ sym made) in
+      w.is ∙ ap (λ (c : Atom). tidy (replaced_by p i c)) same ∙ sym (ap tidy e)
+
+  pub filled_ruled : Filled (λ x. x ≡ tidy r) s t → Filled (ByRule rule p i) s t
+  filled_ruled = filled_set (λ x. x ≡ tidy r) (ByRule rule p i) s t ruled_to ruled_from
+
+  pub over_ruled : Overfull (λ x. x ≡ tidy r) s t → Overfull (ByRule rule p i) s t
+  over_ruled = overfull_set (λ x. x ≡ tidy r) (ByRule rule p i) s t ruled_to
 
 pub none_ruled : (rule : Rule) (p : Query) (i : ℕ) (a : Atom) (t : Distinct Record) → a ≡ atom_at p i → None ≡ made_by rule a → Filled (ByRule rule p i) t t
 none_ruled rule p i a t at made = filled_none (ByRule rule p i) t (λ x w. some_none (sym w.made ∙ ap (made_by rule) (sym at) ∙ sym made))
 
 -- two atoms merged
-pub taken_merged : {X : Type 0} (p : Query) (i j : ℕ) (g : Merger) (r : Query) (s t : Distinct Record) (o : Result X Fault) →
-    i < j → merging (atom_at p i) (atom_at p j) ≡ Some g → r ≡ merged_by p i j g → Taken (λ x. x ≡ tidy r) s t o → Taken (ByMerge p i j) s t o
-taken_merged p i j g r s t o lt made e k =
-    taken_set (λ x. x ≡ tidy r) (ByMerge p i j) s t o
-    (λ x h. record { order = lt; merger = g; made = made; is = h ∙ ap tidy e })
-    (λ x w. w.is ∙ ap (λ (c : Merger). tidy (merged_by p i j c)) (some_same (sym w.made ∙ made)) ∙ sym (ap tidy e))
-    k
+module _ (p : Query) (i j : ℕ) (g : Merger) (r : Query) (s t : Distinct Record) (lt : i < j) (made : merging (atom_at p i) (atom_at p j) ≡ Some g) (e : r ≡ merged_by p i j g) where
+  merged_to : (x : Query) → x ≡ tidy r → ByMerge p i j x
+  merged_to x h = record { order = lt; merger = g; made = made; is = h ∙ ap tidy e }
+
+  merged_from : (x : Query) → ByMerge p i j x → x ≡ tidy r
+  merged_from x w = w.is ∙ ap (λ (c : Merger). tidy (merged_by p i j c)) (some_same (sym w.made ∙ made)) ∙ sym (ap tidy e)
+
+  pub filled_merged : Filled (λ x. x ≡ tidy r) s t → Filled (ByMerge p i j) s t
+  filled_merged = filled_set (λ x. x ≡ tidy r) (ByMerge p i j) s t merged_to merged_from
+
+  pub over_merged : Overfull (λ x. x ≡ tidy r) s t → Overfull (ByMerge p i j) s t
+  over_merged = overfull_set (λ x. x ≡ tidy r) (ByMerge p i j) s t merged_to
 
 pub none_merged : (p : Query) (i j : ℕ) (t : Distinct Record) → merging (atom_at p i) (atom_at p j) ≡ None → Filled (ByMerge p i j) t t
 none_merged p i j t made = filled_none (ByMerge p i j) t (λ x w. some_none (sym w.made ∙ made))

@@ -1,12 +1,9 @@
 pub mod Counting
 pub mod Exact
 pub mod Growing
-pub mod Mapping
 pub mod Once
 pub mod Ordering
 pub mod Places
-pub mod Printing
-pub mod Shifts
 pub mod Shorts
 pub mod Stepping
 pub mod Testing

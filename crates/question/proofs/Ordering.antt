@@ -1,8 +1,10 @@
 -- The order in which variables first stand: loops that collect it, the place of a variable, and that each has one.
-use Rattle.std.proofs.Common.{◌≡◌, ℕ, suc, ◌+◌, ◌*◌, ◌<◌, ◌≤◌, Bool, true, false, cond, ◌||◌, eqb, List, [], ◌∷◌, ◌++◌, length, get_or, drop, sym, refl, ap, ◌∙◌, subst, arith, length-append, eq-eqb, ne_eqb}
+use Rattle.std.proofs.Common.{◌≡◌, ℕ, suc, ◌+◌, ◌*◌, ◌<◌, ◌≤◌, ◌==◌, nat_lt, Bool, true, false, not, cond, ◌||◌, Some, None, List, [], ◌∷◌, ◌++◌, length, get_or, take, sym, refl, ap, ◌∙◌, subst, arith, length-append, length-take-le}
 use Rattle.question.specs.Parts.{OfAtom, Placed}
-use Rattle.std.proofs.lemmas.List.{at_drop_more, at_drop_all}
-use Rattle.std.proofs.lemmas.Bool.{cond_both, cond-true, cond-false}
+use Rattle.std.proofs.lemmas.Bool.Decides.{Decides-ltb}
+use Rattle.std.proofs.lemmas.Bool.{cond_both, cond-true, false≢true}
+use Rattle.std.proofs.lemmas.List.{take_more}
+use Rattle.std.specs.List.{position, position_or_len}
 use Rattle.theory.proofs.Order.{firsts_here, firsts_keep}
 use Rattle.theory.specs.Tidying.{all_terms, known, firsts, place}
 use Rattle.vocabulary.specs.declared.questions.Atom.TheVariants.{IsIn, Joins}
@@ -29,64 +31,60 @@ unfolding all_terms
 firsts_atom (IsIn c t) xs seen = firsts_append (t ∷ []) (all_terms xs) seen
 firsts_atom (Joins l t u) xs seen = firsts_append (t ∷ u ∷ []) (all_terms xs) seen
 
--- one term brings at most one variable, an atom at most two
-pub firsts_few : (t : Term) (seen : List ℕ) → length (firsts (t ∷ []) seen) ≤ length seen + 1
+-- a term brings at most one variable, an atom at most two
+pub firsts_few : (ts : List Term) (seen : List ℕ) → length (firsts ts seen) ≤ length seen + length ts
 unfolding firsts
-firsts_few (Variable n) seen =
-    cond_both (known n seen) seen (seen ++ n ∷ []) (λ (ys : List ℕ). length ys ≤ length seen + 1) (λ e. omega arith) (λ e. omega (arith, length-append seen (n ∷ [])))
-firsts_few (Constant a) seen = omega arith
-firsts_few Open seen = omega arith
+firsts_few [] seen = omega arith
+firsts_few (Variable n ∷ ts) seen =
+    cond_both (known n seen) (firsts ts seen) (firsts ts (seen ++ n ∷ [])) (λ (ys : List ℕ). length ys ≤ length seen + length (Variable n ∷ ts))
+    (λ e. omega (arith, firsts_few ts seen)) (λ e. omega (arith, firsts_few ts (seen ++ n ∷ []), length-append seen (n ∷ [])))
+firsts_few (Constant a ∷ ts) seen = omega (arith, firsts_few ts seen)
+firsts_few (Open ∷ ts) seen = omega (arith, firsts_few ts seen)
 
-firsts_atom_few : (a : Atom) (seen : List ℕ) → length (firsts (all_terms (a ∷ [])) seen) ≤ length seen + 2
+terms_few : (xs : List Atom) → length (all_terms xs) ≤ 2 * length xs
 unfolding all_terms
-firsts_atom_few (IsIn c t) seen = omega (arith, firsts_few t seen)
-firsts_atom_few (Joins l t u) seen =
-    omega (arith, firsts_few t seen, firsts_few u (firsts (t ∷ []) seen), ap length (firsts_one t (u ∷ []) seen))
+terms_few [] = omega arith
+terms_few (IsIn c t ∷ xs) = omega (arith, terms_few xs)
+terms_few (Joins l t u ∷ xs) = omega (arith, terms_few xs)
 
--- turns and ends
-pub head_turn : (d : Term) (made next : List ℕ) (ts : List Term) (i : ℕ) (all : List ℕ) → i < length ts → next ≡ firsts (get_or ts i d ∷ []) made → firsts (drop i ts) made ≡ all → firsts (drop (i + 1) ts) next ≡ all
-head_turn d made next ts i all h e inv =
-    ap (firsts (drop (i + 1) ts)) e ∙ sym (firsts_one (get_or ts i d) (drop (i + 1) ts) made) ∙ sym (at_drop_more (λ us. firsts us made) ts i d h) ∙ inv
+-- a turn of a loop that collects them
+pub firsts_more : (d : Term) (ts : List Term) (i : ℕ) (seen : List ℕ) → i < length ts → firsts (take (i + 1) ts) seen ≡ firsts (get_or ts i d ∷ []) (firsts (take i ts) seen)
+firsts_more d ts i seen h = ap (λ (us : List Term). firsts us seen) (take_more ts i d h) ∙ firsts_append (take i ts) (get_or ts i d ∷ []) seen
 
-pub head_room : (t : Term) (made next : List ℕ) (i : ℕ) → next ≡ firsts (t ∷ []) made → length made ≤ i → length next ≤ i + 1
-head_room t made next i e few = omega (arith, ap length e, firsts_few t made)
+pub firsts_room : (ts : List Term) (i : ℕ) (seen : List ℕ) → i < length ts → length (firsts (take i ts) seen) ≤ length seen + i
+firsts_room ts i seen h = omega (arith, firsts_few (take i ts) seen, length-take-le i ts (omega arith))
 
-pub head_end : (made : List ℕ) (ts : List Term) (i : ℕ) (all : List ℕ) → length ts ≤ i → firsts (drop i ts) made ≡ all → made ≡ all
-unfolding firsts
-head_end made ts i all h inv = sym (at_drop_all (λ vs. firsts vs made) ts i h) ∙ inv
+terms_append : (xs ys : List Atom) → all_terms (xs ++ ys) ≡ all_terms xs ++ all_terms ys
+unfolding all_terms
+terms_append [] ys = refl
+terms_append (IsIn c t ∷ xs) ys = ap (λ (us : List Term). t ∷ us) (terms_append xs ys)
+terms_append (Joins l t u ∷ xs) ys = ap (λ (us : List Term). t ∷ (u ∷ us)) (terms_append xs ys)
 
-pub body_turn : (d : Atom) (made next : List ℕ) (xs : List Atom) (i : ℕ) (all : List ℕ) → i < length xs → next ≡ firsts (all_terms (get_or xs i d ∷ [])) made →
-    firsts (all_terms (drop i xs)) made ≡ all → firsts (all_terms (drop (i + 1) xs)) next ≡ all
-body_turn d made next xs i all h e inv =
-    ap (firsts (all_terms (drop (i + 1) xs))) e ∙ sym (firsts_atom (get_or xs i d) (drop (i + 1) xs) made) ∙ sym (at_drop_more (λ us. firsts (all_terms us) made) xs i d h) ∙ inv
+pub body_more : (d : Atom) (xs : List Atom) (i : ℕ) (seen : List ℕ) → i < length xs →
+    firsts (all_terms (take (i + 1) xs)) seen ≡ firsts (all_terms (get_or xs i d ∷ [])) (firsts (all_terms (take i xs)) seen)
+body_more d xs i seen h =
+    ap (λ (us : List Term). firsts us seen) (ap all_terms (take_more xs i d h) ∙ terms_append (take i xs) (get_or xs i d ∷ []))
+    ∙ firsts_append (all_terms (take i xs)) (all_terms (get_or xs i d ∷ [])) seen
 
-pub body_room : (a : Atom) (made next : List ℕ) (i : ℕ) → next ≡ firsts (all_terms (a ∷ [])) made → length made ≤ 4 + 2 * i → length next ≤ 4 + 2 * (i + 1)
-body_room a made next i e few = omega (arith, ap length e, firsts_atom_few a made)
+pub body_room : (xs : List Atom) (i : ℕ) (seen : List ℕ) → i < length xs → length (firsts (all_terms (take i xs)) seen) ≤ length seen + 2 * i
+body_room xs i seen h = omega (arith, firsts_few (all_terms (take i xs)) seen, terms_few (take i xs), length-take-le i xs (omega arith))
 
-pub body_end : (made : List ℕ) (xs : List Atom) (i : ℕ) (all : List ℕ) → length xs ≤ i → firsts (all_terms (drop i xs)) made ≡ all → made ≡ all
-unfolding firsts all_terms
-body_end made xs i all h inv = sym (at_drop_all (λ us. firsts (all_terms us) made) xs i h) ∙ inv
+-- the place of a variable that is in the order
+prefix_place : (n : ℕ) (ms : List ℕ) → known n ms ≡ true → (position_or_len (λ m. n == m) ms ≡ place n ms) × (place n ms < length ms)
+unfolding known place
+prefix_place n [] h = absurd (false≢true h)
+prefix_place n (m ∷ ms) h =
+    cases_at (n == m) h (prefix_place n ms)
+  where
+    cases_at : (b : Bool) → (b || known n ms) ≡ true → (known n ms ≡ true → (position_or_len (λ k. n == k) ms ≡ place n ms) × (place n ms < length ms)) →
+        (cond (not b) (1 + position_or_len (λ k. n == k) ms) 0 ≡ cond b 0 (suc (place n ms))) × (cond b 0 (suc (place n ms)) < suc (length ms))
+    cases_at true e rest = (refl, omega arith)
+    cases_at false e rest = let (p, l) = rest e in (omega (arith, p), omega (arith, l))
 
--- looking for a variable in the order
-pub knows_here : (n : ℕ) (seen : List ℕ) (i : ℕ) → i < length seen → n ≡ get_or seen i 0 → true ≡ known n (drop i seen)
-unfolding known
-knows_here n seen i h e = sym (ap (λ (b : Bool). b || known n (drop (i + 1) seen)) (eq-eqb n (get_or seen i 0) e)) ∙ sym (at_drop_more (known n) seen i 0 h)
-
-pub knows_on : (n : ℕ) (seen : List ℕ) (i : ℕ) → i < length seen → (n ≡ get_or seen i 0 → ⊥) → known n (drop (i + 1) seen) ≡ known n (drop i seen)
-unfolding known
-knows_on n seen i h e = sym (ap (λ (b : Bool). b || known n (drop (i + 1) seen)) (ne_eqb n (get_or seen i 0) e)) ∙ sym (at_drop_more (known n) seen i 0 h)
-
-pub knows_end : (n : ℕ) (seen : List ℕ) (i : ℕ) → length seen ≤ i → false ≡ known n (drop i seen)
-unfolding known
-knows_end n seen i h = sym (at_drop_all (known n) seen i h)
-
-pub place_here : (n : ℕ) (seen : List ℕ) (i : ℕ) → i < length seen → n ≡ get_or seen i 0 → place n (drop i seen) ≡ 0
-unfolding place
-place_here n seen i h e = at_drop_more (place n) seen i 0 h ∙ cond-true (eqb n (get_or seen i 0)) 0 (suc (place n (drop (i + 1) seen))) (eq-eqb n (get_or seen i 0) e)
-
-pub place_on : (n : ℕ) (seen : List ℕ) (i : ℕ) → i < length seen → (n ≡ get_or seen i 0 → ⊥) → place n (drop i seen) ≡ suc (place n (drop (i + 1) seen))
-unfolding place
-place_on n seen i h e = at_drop_more (place n) seen i 0 h ∙ cond-false (eqb n (get_or seen i 0)) 0 (suc (place n (drop (i + 1) seen))) (ne_eqb n (get_or seen i 0) e)
+pub position_place : (n : ℕ) (ms : List ℕ) → known n ms ≡ true → position (λ m. n == m) ms ≡ Some (place n ms)
+position_place n ms h =
+    let (p, l) = prefix_place n ms h in
+    cond-true (nat_lt (position_or_len (λ m. n == m) ms) (length ms)) (Some (position_or_len (λ m. n == m) ms)) None ((Decides-ltb (position_or_len (λ m. n == m) ms) (length ms)).1 (omega (arith, p, l))) ∙ ap Some p
 
 -- every term has its place in the order of its list
 placed_keep : (t : Term) (ts : List Term) (seen : List ℕ) → Placed seen t → Placed (firsts ts seen) t

@@ -27,7 +27,7 @@ rows d = map query (items d)
 abbrev pub Same : Record → Record → Bool → Type 0
 Same x y r = Decides r (query x ≡ query y)
 
--- the table s has grown to t by questions of the set S, which took the first of the free places
+-- the table s has grown to t by questions of the set S, which took the first of the free places; the places are lent as they were
 pub record Grown (S : Query → Type 0) (s t : Distinct Record) : Type 0 where
   pub more : List Query
   pub is : rows t ≡ rows s ++ more
@@ -35,6 +35,7 @@ pub record Grown (S : Query → Type 0) (s t : Distinct Record) : Type 0 where
   pub apart : NoRepeats Same (items s) → NoRepeats Same (items t)
   pub left : spare t ≡ drop (length more) (spare s)
   pub size : length t.places.now ≡ length s.places.now
+  pub lent : t.places.ghost_name ≡ s.places.ghost_name
 
 -- it has the whole set now
 pub record Filled (S : Query → Type 0) (s t : Distinct Record) : Type 0 where

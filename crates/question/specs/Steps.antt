@@ -4,8 +4,9 @@ use Rattle.question.specs.Parts.{of_parts}
 use Rattle.question.specs.declared.merging.Merger.{Merger}
 use Rattle.question.specs.declared.parts.Parts.{Parts}
 use Rattle.std.specs.List.{remove}
+use Rattle.std.specs.Option.{option_and_then, option_map}
 use Rattle.theory.specs.Questions.{Query}
-use Rattle.theory.specs.Rewritings.{Becomes, Merges, about, apply, filled, joining, unify, unify_second}
+use Rattle.theory.specs.Rewritings.{Becomes, Merges, about, apply, filled, joining, unify}
 use Rattle.theory.specs.Tidying.{on_query}
 use Rattle.vocabulary.specs.declared.basic.Basic.TheVariants.{Named, Start}
 use Rattle.vocabulary.specs.declared.basic.Directed.TheVariants.{Forward, Backward}
@@ -15,8 +16,7 @@ use Rattle.vocabulary.specs.declared.questions.Atom.TheVariants.{IsIn, Joins}
 use Rattle.vocabulary.specs.declared.questions.Atom.{Atom}
 use Rattle.vocabulary.specs.declared.questions.Term.TheVariants.{Variable, Constant, Open}
 use Rattle.vocabulary.specs.declared.questions.Term.{Term}
-use Rattle.vocabulary.specs.declared.questions.Unifier.TheVariants.{Fails, Trivial, Binds}
-use Rattle.vocabulary.specs.declared.questions.Unifier.{Unifier}
+use Rattle.vocabulary.specs.declared.questions.Unifier.TheVariants.{Trivial}
 use Rattle.vocabulary.specs.declared.rules.Rule.TheVariants.{Within, Apart, LinkWithin, LinkApart, Single}
 use Rattle.vocabulary.specs.declared.rules.Rule.{Rule}
 
@@ -46,20 +46,15 @@ made_by (Single d) a = None
 abbrev pub Made : Rule → Atom → Option Atom → Type 0
 Made rule a o = (b : Atom) → (o ≡ Some b → Becomes (rule ∷ []) a b) × (Becomes (rule ∷ []) a b → o ≡ Some b)
 
--- m, unless nothing makes the terms equal
-abbrev pub unless_fails : Unifier → Option Merger → Option Merger
-unless_fails Fails m = None
-unless_fails Trivial m = m
-unless_fails (Binds n t) m = m
-
--- how two atoms of one class or one link merge
+-- how two atoms of one class or one link merge, if something makes their terms equal
 abbrev pub merging_classes : Class → Term → Term → Option Merger
-merging_classes c t t' = unless_fails (unify t t') (Some (record { atom = IsIn c (filled t t'); first = unify t t'; second = Trivial }))
+merging_classes c t t' = option_map (λ k. record { atom = IsIn c (filled t t'); first = k; second = Trivial }) (unify t t')
 
 unfoldable pub merging_links : Link → Term → Term → Term → Term → Option Merger
 merging_links l t u t' u' =
-    unless_fails (unify t t') (unless_fails (unify_second t t' u u')
-    (Some (record { atom = Joins l (filled t t') (filled u u'); first = unify t t'; second = unify_second t t' u u' })))
+    option_and_then
+    (λ k. option_map (λ j. record { atom = Joins l (filled t t') (filled u u'); first = k; second = j }) (unify (apply (Some k) u) (apply (Some k) u')))
+    (unify t t')
 
 -- how two atoms merge, by cases
 abbrev pub merging : Atom → Atom → Option Merger
@@ -70,7 +65,7 @@ merging (Joins l t u) (Joins m t' u') = cond (l.0 == m.0) (merging_links l t u t
 
 -- what becomes of every term
 abbrev pub merges_to : Merger → Term → Term
-merges_to m t = apply m.second (apply m.first t)
+merges_to m t = apply (Some m.second) (apply (Some m.first) t)
 
 -- o is the one way in which the two atoms merge
 pub record MergesAs (a b : Atom) (o : Option Merger) : Type 0 where

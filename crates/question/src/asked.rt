@@ -104,40 +104,29 @@ impl Question<'_> {
     pub fn in_range(&self) -> bool
         ensures { Decides result (InRange self.now) }
     {
-        for a in self.atoms {
-            if !a.in_range() {
-                return false;
-            }
-        }
-        true
+        self.atoms.iter().all(|a| a.in_range())
     }
 
     /// Whether head and atoms are as many as they may be.
     fn shaped(&self) -> bool
         ensures { Decides result (Shaped self.now) }
     {
-        self.head.len() <= 4 && 1 <= self.atoms.len() && self.atoms.len() <= 6
+        self.head.len() <= 4 && (1..=6).contains(&self.atoms.len())
     }
 
     /// Whether every variable is below 12.
     fn numbered(&self) -> bool
         ensures { Decides result (Numbered self.now) }
     {
-        head_numbered(self.head) && atoms_numbered(self.atoms)
+        self.head.iter().all(|n| *n < 12) && self.atoms.iter().all(|a| a.numbered())
     }
 
     /// Whether every variable of the head stands in one of the atoms.
-    fn bound(&self, atoms: &[Atom]) -> bool
-        requires few { length atoms.now ≤ 6 }
-        requires same { atoms.now ≡ map asked_atom self.now.atoms.now }
+    fn bound(&self, atoms: &Short<Atom, 6>) -> bool
+        requires { listed atoms.now ≡ map asked_atom self.now.atoms.now }
         ensures { Decides result (Bound self.now) }
     {
-        for n in self.head {
-            if occurrences_in(*n, atoms) == 0 {
-                return false;
-            }
-        }
-        true
+        self.head.iter().all(|n| occurrences_in(*n, atoms) > 0)
     }
 
     /// The head that is worked on.
@@ -145,11 +134,7 @@ impl Question<'_> {
         requires { length self.now.head.now ≤ 4 }
         ensures { listed result ≡ map Variable self.now.head.now }
     {
-        let mut made = Short::empty(Term::Open);
-        for n in self.head {
-            made = made.with(Term::Variable(*n));
-        }
-        made
+        Short::mapped(self.head, |n| Term::Variable(n))
     }
 
     /// The atoms that are worked on.
@@ -157,11 +142,7 @@ impl Question<'_> {
         requires { length self.now.atoms.now ≤ 6 }
         ensures { listed result ≡ map asked_atom self.now.atoms.now }
     {
-        let mut made = Short::empty(Atom::IsIn(Class(0), Term::Open));
-        for a in self.atoms {
-            made = made.with(a.atom());
-        }
-        made
+        Short::mapped(self.atoms, |a| a.atom())
     }
 
     /// The record of the question, or the fault: the shape goes before the variables, and these before the head.
@@ -175,7 +156,7 @@ impl Question<'_> {
             return Err(Fault::Variable);
         }
         let atoms = self.body();
-        if !self.bound(atoms.all()) {
+        if !self.bound(&atoms) {
             return Err(Fault::Unbound);
         }
         let head = self.terms();
@@ -191,28 +172,4 @@ impl Question<'_> {
         }
         self.record()
     }
-}
-
-/// Whether the variables are below 12.
-fn head_numbered(head: &[u8]) -> bool
-    ensures { Decides result (AllByRecursion (λ n. n < 12) head.now) }
-{
-    for n in head {
-        if *n >= 12 {
-            return false;
-        }
-    }
-    true
-}
-
-/// Whether every variable of the atoms is below 12.
-fn atoms_numbered(atoms: &[AskedAtom]) -> bool
-    ensures { Decides result (AllByRecursion AtomNumbered atoms.now) }
-{
-    for a in atoms {
-        if !a.numbered() {
-            return false;
-        }
-    }
-    true
 }

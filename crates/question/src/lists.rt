@@ -1,22 +1,57 @@
 //! Short lists: reading them, and making one from another.
 
-ghost use Rattle.std.specs.Prelude.{◌≡◌, ◌<◌, ◌≤◌, [], ◌∷◌, ◌++◌, length, slice_index_or, slice_set};
-ghost use Rattle.question.specs.Shorts.{listed};
+ghost use Rattle.std.specs.Prelude.{◌≡◌, ◌<◌, ◌≤◌, [], ◌∷◌, ◌++◌, length, map, slice_set};
+ghost use Rattle.question.specs.Shorts.{Computes, listed};
 ghost use Rattle.std.specs.List.{remove};
+ghost use mathlib.Core.List.{Memᴰ};
 
 use crate::short::Short;
+use vocabulary::numbers::Class;
+use vocabulary::questions::{Atom, Term};
 
-impl<T: Copy, const N: usize> Short<T, N> {
-    /// The empty list; the filler lies in its places.
-    pub(crate) fn empty(filler: T) -> Short<T, N>
+/// What lies in the places of a short list that hold no element: it says nothing.
+pub(crate) trait Blank {
+    const BLANK: Self;
+}
+
+impl Blank for u8 {
+    const BLANK: u8 = 0;
+}
+
+impl Blank for Term {
+    const BLANK: Term = Term::Open;
+}
+
+impl Blank for Atom {
+    const BLANK: Atom = Atom::IsIn(Class(0), Term::Open);
+}
+
+impl<T: Copy + Blank, const N: usize> Short<T, N> {
+    /// The empty list.
+    pub(crate) fn empty() -> Short<T, N>
         ensures { listed result ≡ [] }
     {
         Short {
-            items: [filler; N],
+            items: [T::BLANK; N],
             count: 0,
         }
     }
 
+    /// What `f` makes of each of `xs`.
+    pub(crate) fn mapped<S: Copy, F: Fn(S) -> T>(xs: &[S], f: F) -> Short<T, N>
+        requires few { length xs.now ≤ N }
+        requires each { (x : S) → Memᴰ x xs.now → F.pre f x }
+        ensures { (g : S → T) → Computes (F.pre f) (F.post f) g → listed result ≡ map g xs.now }
+    {
+        let mut made = Short::empty();
+        for x in xs {
+            made.push(f(*x));
+        }
+        made
+    }
+}
+
+impl<T: Copy, const N: usize> Short<T, N> {
     /// How many elements there are.
     pub(crate) fn len(&self) -> usize
         ensures { (result ≡ length (listed self.now)) × (result ≤ N) }
@@ -26,52 +61,36 @@ impl<T: Copy, const N: usize> Short<T, N> {
 
     /// The elements, in order.
     pub(crate) fn all(&self) -> &[T]
-        ensures { result.now ≡ listed self.now }
+        ensures same { result.now ≡ listed self.now }
+        ensures few { length result.now ≤ N }
     {
-        let whole = &self.items[..];
-        &whole[0..self.count]
+        &self.items[..self.count]
     }
 
-    /// The element at `i`.
-    pub(crate) fn at(&self, i: usize) -> T
-        requires { i < length (listed self.now) }
-        ensures { (d : T) → result ≡ slice_index_or (listed self.now) i d }
+    /// Puts `x` behind the others.
+    pub(crate) fn push(&mut self, x: T)
+        requires { length (listed self.old) < N }
+        ensures { listed self.new ≡ listed self.old ++ x ∷ [] }
     {
-        self.items[i]
+        self.items[self.count] = x;
+        self.count += 1;
     }
 
-    /// The list with `x` behind the others.
-    pub(crate) fn with(self, x: T) -> Short<T, N>
-        requires { length (listed self) < N }
-        ensures { listed result ≡ listed self ++ x ∷ [] }
+    /// Puts `x` in place of the element at `i`.
+    pub(crate) fn set(&mut self, i: usize, x: T)
+        requires { i < length (listed self.old) }
+        ensures { listed self.new ≡ slice_set (listed self.old) i x }
     {
-        let mut s = self;
-        s.items[s.count] = x;
-        s.count += 1;
-        s
+        self.items[i] = x;
     }
 
-    /// The list with `x` in place of the element at `i`.
-    pub(crate) fn with_at(self, i: usize, x: T) -> Short<T, N>
-        requires { i < length (listed self) }
-        ensures { listed result ≡ slice_set (listed self) i x }
+    /// Takes out the element at `j`: the later ones move down.
+    pub(crate) fn remove(&mut self, j: usize)
+        requires { j < length (listed self.old) }
+        ensures { listed self.new ≡ remove (listed self.old) j }
     {
-        let mut s = self;
-        s.items[i] = x;
-        s
-    }
-
-    /// The list without the element at `j`: the later ones move down.
-    pub(crate) fn without(self, j: usize) -> Short<T, N>
-        requires { j < length (listed self) }
-        ensures { listed result ≡ remove (listed self) j }
-    {
-        let mut items = self.items;
-        let last = self.count - 1;
-        for k in j..last {
-            let x = items[k + 1];
-            items[k] = x;
-        }
-        Short { items, count: last }
+        let count = self.count;
+        self.items.copy_within(j + 1..count, j);
+        self.count = count - 1;
     }
 }

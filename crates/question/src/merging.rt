@@ -1,13 +1,12 @@
 //! Two atoms merged into one.
 
-ghost use Rattle.std.specs.Prelude.{◌≡◌, ◌<◌, length, slice_index_or};
+ghost use Rattle.std.specs.Prelude.{◌≡◌, ◌<◌, Some, length, slice_index_or};
 ghost use Rattle.question.specs.Parts.{of_parts};
 ghost use Rattle.question.specs.Shorts.{listed};
-ghost use Rattle.question.specs.Steps.{MergesAt, MergesAs, merges_to, merging, merging_classes, merging_links, unless_fails};
+ghost use Rattle.question.specs.Steps.{MergesAt, MergesAs, merges_to, merging, merging_classes, merging_links};
 ghost use Rattle.theory.specs.Rewritings.{apply, filled, unify};
 ghost use Rattle.vocabulary.specs.declared.questions.Atom.{Atom};
 
-use crate::changes::{Change, on_parts};
 use crate::parts::Parts;
 use vocabulary::numbers::{Class, Link};
 use vocabulary::questions::{Atom, Term, Unifier};
@@ -20,46 +19,44 @@ pub(crate) struct Merger {
     second: Unifier,
 }
 
-impl Change for Merger {
-    ghost change = { λ m. merges_to m };
-
-    fn on(&self, t: Term) -> Term {
+impl Merger {
+    /// What becomes of a term.
+    fn given(&self, t: Term) -> Term
+        ensures { result ≡ merges_to self.now t }
+    {
         given(self.second, given(self.first, t))
     }
 }
 
-/// What makes two terms equal.
-fn unified(t: Term, u: Term) -> Unifier
+/// What makes two terms equal, if something does.
+fn unified(t: Term, u: Term) -> Option<Unifier>
     ensures { result ≡ unify t u }
 {
     match (t, u) {
-        (Term::Open, _) => Unifier::Trivial,
-        (_, Term::Open) => Unifier::Trivial,
+        (Term::Open, _) => Some(Unifier::Trivial),
+        (_, Term::Open) => Some(Unifier::Trivial),
         (Term::Variable(m), Term::Variable(n)) => if m < n {
-            Unifier::Binds(n, Term::Variable(m))
+            Some(Unifier::Binds(n, Term::Variable(m)))
         } else {
-            Unifier::Binds(m, Term::Variable(n))
+            Some(Unifier::Binds(m, Term::Variable(n)))
         },
-        (Term::Variable(m), Term::Constant(a)) => Unifier::Binds(m, Term::Constant(a)),
-        (Term::Constant(a), Term::Variable(n)) => Unifier::Binds(n, Term::Constant(a)),
+        (Term::Variable(m), Term::Constant(a)) => Some(Unifier::Binds(m, Term::Constant(a))),
+        (Term::Constant(a), Term::Variable(n)) => Some(Unifier::Binds(n, Term::Constant(a))),
         (Term::Constant(a), Term::Constant(b)) => if a.0 == b.0 {
-            Unifier::Trivial
+            Some(Unifier::Trivial)
         } else {
-            Unifier::Fails
+            None
         },
     }
 }
 
 /// What becomes of a term.
 fn given(by: Unifier, t: Term) -> Term
-    ensures { result ≡ apply by t }
+    ensures { result ≡ apply (Some by) t }
 {
     match (by, t) {
-        (Unifier::Binds(n, u), Term::Variable(m)) => if m == n { u } else { Term::Variable(m) },
-        (Unifier::Binds(_, _), Term::Constant(b)) => Term::Constant(b),
-        (Unifier::Binds(_, _), Term::Open) => Term::Open,
-        (Unifier::Fails, _) => t,
-        (Unifier::Trivial, _) => t,
+        (Unifier::Binds(n, u), Term::Variable(m)) if m == n => u,
+        _ => t,
     }
 }
 
@@ -69,19 +66,7 @@ fn fill(t: Term, u: Term) -> Term
 {
     match t {
         Term::Open => u,
-        Term::Variable(n) => Term::Variable(n),
-        Term::Constant(a) => Term::Constant(a),
-    }
-}
-
-/// What is given, unless nothing makes the terms equal.
-fn unless(by: Unifier, m: Option<Merger>) -> Option<Merger>
-    ensures { result ≡ unless_fails by m }
-{
-    match by {
-        Unifier::Fails => None,
-        Unifier::Trivial => m,
-        Unifier::Binds(_, _) => m,
+        _ => t,
     }
 }
 
@@ -89,32 +74,32 @@ fn unless(by: Unifier, m: Option<Merger>) -> Option<Merger>
 fn merge_classes(c: Class, t: Term, u: Term) -> Option<Merger>
     ensures { result ≡ merging_classes c t u }
 {
-    let first = unified(t, u);
-    let merger = Merger {
+    let first = unified(t, u)?;
+    Some(Merger {
         atom: Atom::IsIn(c, fill(t, u)),
         first,
         second: Unifier::Trivial,
-    };
-    unless(first, Some(merger))
+    })
 }
 
 /// How two atoms of one link merge: the first terms go before the second.
+#[tactic(auto, unfolding(crate::specs::Steps::merging_links))]
 fn merge_links(l: Link, t: Term, u: Term, v: Term, w: Term) -> Option<Merger>
     ensures { result ≡ merging_links l t u v w }
 {
-    let first = unified(t, v);
-    let second = unified(given(first, u), given(first, w));
-    let merger = Merger {
+    let first = unified(t, v)?;
+    let second = unified(given(first, u), given(first, w))?;
+    Some(Merger {
         atom: Atom::Joins(l, fill(t, v), fill(u, w)),
         first,
         second,
-    };
-    unless(first, unless(second, Some(merger)))
+    })
 }
 
-/// How two atoms merge, by cases.
-fn merge_atoms(a: Atom, b: Atom) -> Option<Merger>
-    ensures { result ≡ merging a b }
+/// How two atoms merge: in one way at most.
+fn merge(a: Atom, b: Atom) -> Option<Merger>
+    ensures made { result ≡ merging a b }
+    ensures exact { MergesAs a b result }
 {
     match (a, b) {
         (Atom::IsIn(c, t), Atom::IsIn(d, u)) if c.0 == d.0 => merge_classes(c, t, u),
@@ -123,25 +108,17 @@ fn merge_atoms(a: Atom, b: Atom) -> Option<Merger>
     }
 }
 
-/// How two atoms merge: in one way at most.
-fn merge(a: Atom, b: Atom) -> Option<Merger>
-    ensures made { result ≡ merging a b }
-    ensures exact { MergesAs a b result }
-{
-    merge_atoms(a, b)
-}
-
 impl Parts {
     /// The question with the atoms at `i` and `j` merged, if they merge.
     pub(crate) fn merged(&self, i: usize, j: usize) -> Option<Parts>
         requires { (i < j) × (j < length (listed self.now.atoms)) }
         ensures { (d : Atom) → MergesAt (of_parts self.now) (slice_index_or (listed self.now.atoms) i d) (slice_index_or (listed self.now.atoms) j d) i j result }
     {
-        let merger = merge(self.atoms.at(i), self.atoms.at(j))?;
-        let left = Parts {
-            head: self.head,
-            atoms: self.atoms.with_at(i, merger.atom).without(j),
-        };
-        Some(on_parts(&merger, &left))
+        let atoms = self.atoms.all();
+        let merger = merge(atoms[i], atoms[j])?;
+        let mut left = *self;
+        left.atoms.set(i, merger.atom);
+        left.atoms.remove(j);
+        Some(left.map(|t| merger.given(t)))
     }
 }

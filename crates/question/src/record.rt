@@ -7,10 +7,9 @@ ghost use Rattle.std.specs.Prelude.{◌≡◌};
 use crate::parts::Parts;
 
 /// The parts of a question, with their fingerprint, by which two different ones are mostly told apart at once.
+#[derive(Clone, Copy)]
 pub struct Record {
-    pub(crate) print: u64,
+    pub(crate) print: u32,
     pub(crate) parts: Parts,
     ghost tied: { print ≡ fingerprint (of_parts parts) },
 }
-
-impl Copy for Record {}

@@ -33,6 +33,7 @@ fn put_onward(table: &mut Distinct<Record>, rules: &[Rule]) -> Result<(), Fault>
     ensures worked { (q : Query) (before : List Record) → Working rules.now q before table.old 0 → Worked rules.now q before table.new result }
     ensures lent { table.new.places.ghost_name ≡ table.old.places.ghost_name }
 {
+    // The table grows meanwhile, so no iterator can hold it: its places are counted.
     let mut done = 0;
     while done < table.len() {
         let next = table.items()[done];

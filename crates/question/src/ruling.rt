@@ -42,9 +42,11 @@ fn if_open(t: Term, a: Atom) -> Option<Atom>
     }
 }
 
-/// What one rule makes of an atom, by cases.
-fn ruled(rule: Rule, a: Atom) -> Option<Atom>
-    ensures { result ≡ made_by rule a }
+/// All that one rule makes of an atom: at most one atom.
+#[tactic(auto, using(crate::proofs::Exact::made_all))]
+pub(crate) fn becomes(rule: Rule, a: Atom) -> Option<Atom>
+    ensures made { result ≡ made_by rule a }
+    ensures exact { Made rule a result }
 {
     match (rule, a) {
         (Rule::Within(b, Basic::Named(c)), Atom::IsIn(d, t)) if c.0 == d.0 => Some(concerning(
@@ -64,23 +66,14 @@ fn ruled(rule: Rule, a: Atom) -> Option<Atom>
     }
 }
 
-/// All that one rule makes of an atom: at most one atom.
-pub(crate) fn becomes(rule: Rule, a: Atom) -> Option<Atom>
-    ensures made { result ≡ made_by rule a }
-    ensures exact { Made rule a result }
-{
-    ruled(rule, a)
-}
-
 impl Parts {
     /// The question with the atom at `i` replaced.
     pub(crate) fn replaced(&self, i: usize, a: Atom) -> Parts
         requires { i < length (listed self.now.atoms) }
         ensures { of_parts result ≡ replaced_by (of_parts self.now) i a }
     {
-        Parts {
-            head: self.head,
-            atoms: self.atoms.with_at(i, a),
-        }
+        let mut made = *self;
+        made.atoms.set(i, a);
+        made
     }
 }

@@ -5,6 +5,8 @@ ghost use Rattle.std.specs.Prelude.{◌≡◌, ◌≤◌, length};
 use std::alloc::AllocError;
 
 /// The list is the first `count` of `items`; what lies behind them says nothing.
+///
+/// It holds no heap, since records lie in a table that the caller lends.
 pub struct Short<T, const N: usize> {
     pub(crate) items: [T; N],
     pub(crate) count: usize,
@@ -12,6 +14,7 @@ pub struct Short<T, const N: usize> {
     ghost full: { length items ≡ N },
 }
 
+// By hand: a derive is refused for a generic struct with a ghost field.
 impl<T: Copy, const N: usize> Copy for Short<T, N> {}
 
 impl<T: Copy, const N: usize> Clone for Short<T, N> {

@@ -5,7 +5,6 @@ ghost use Rattle.question.specs.Parts.{of_parts};
 ghost use Rattle.question.specs.Shorts.{listed};
 ghost use Rattle.theory.specs.Tidying.{rounds, tidy};
 
-use crate::changes::on_parts;
 use crate::parts::Parts;
 
 impl Parts {
@@ -25,7 +24,6 @@ impl Parts {
         ensures { of_parts result ≡ tidy (of_parts self) }
     {
         let rounded = self.rounded();
-        let order = rounded.order();
-        on_parts(&order, &rounded)
+        rounded.numbered(&rounded.order())
     }
 }

@@ -1,4 +1,5 @@
 use Rattle.std.proofs.Common.{◌≡◌, ℕ, ◌⊎◌, List, map, sym, refl, ap, ◌∙◌, subst, subst₂, inl, inr, ⊎_elim, arith}
+use mathlib.Core.List.Memᴰ
 use mathlib.Core.List.{Memᴰ}
 use native.Mathlib.Decide.{map_dec}
 use Rattle.vocabulary.specs.declared.basic.Directed.{Directed}
@@ -14,7 +15,6 @@ use Rattle.vocabulary.specs.Families.{LinksToo}
 use Rattle.theory.specs.Closure.{Exclusion, classes, links, Excluded, apart, link_apart, swap, link_swap, link_turn, narrow, narrow_start, narrow_end, link_narrow, other_end, empty_link, link_empty}
 use Rattle.theory.specs.Reaching.{LinkStep, along, Step, by_rule, by_link, Reaches, here, then}
 use Rattle.theory.specs.Following.{Empty, Implied}
-use Rattle.theory.proofs.Lists.{map_in, map_out}
 use Rattle.theory.proofs.Decisions.{some, either, both}
 use Rattle.theory.proofs.Ways.{Edge, edge, Way, stay, go, way_some}
 use Rattle.theory.proofs.Reached.{same_basic, turned_step, turned_reach, start_reach, single, steps, step_in, step_out, reached, links_reached, reached_some, links_reached_some, narrow_step, narrowed_both, links_narrowed_both}
@@ -73,7 +73,7 @@ module _ (k : Family) (rules : List Rule) where
 
   void_step : {b c : Basic} → Step rules b c → Void c → Void b
   unfolding ways
-  void_step {b} {c} s (n, w, h) = (n, go (plain_edge (edge b c)) (map_in plain_edge (step_in rules b c s)) refl w, h)
+  void_step {b} {c} s (n, w, h) = (n, go (plain_edge (edge b c)) (Memᴰ.map plain_edge (step_in rules b c s)) refl w, h)
 
   void_reach : {b c : Basic} → Reaches (Step rules) b c → Void c → Void b
   void_reach here v = v
@@ -99,11 +99,11 @@ module _ (k : Family) (rules : List Rule) where
   unfolding ways
   way_empty (stay p) b c q r e = plain_empty b c (sym q ∙ p ∙ r) e
   way_empty {y = y} (go f m p w) b c q r e =
-      let t = map_out plain_edge (steps rules) m in
+      let t = Memᴰ.of_map plain_edge (steps rules) m in
       let g = t.0 in
-      let i = way_empty w g.to c (ap (λ (u : Edge Basic). u.to) t.2) r e in
+      let i = way_empty w g.to c (ap (λ (u : Edge Basic). u.to) (sym t.2)) r e in
       let s = step_out rules g t.1 in
-      plain_empty b g.from (sym q ∙ p ∙ ap (λ (u : Edge Basic). u.from) t.2) (narrow_step s (swap (narrow_step s i)))
+      plain_empty b g.from (sym q ∙ p ∙ ap (λ (u : Edge Basic). u.from) (sym t.2)) (narrow_step s (swap (narrow_step s i)))
 
   hit_excluded : {b c : Basic} → Hit b c → Excluded k rules (classes b c)
   hit_excluded (p, q, m, o) = ⊎_elim (λ t. narrowed_both t.0 t.1 (apart m)) (λ t. narrowed_both t.0 t.1 (swap (apart m))) o

@@ -1,7 +1,7 @@
 -- Members of lists, and lists matched place by place.
 use Rattle.std.specs.List.{flat_map, AllByRecursion}
 use Rattle.theory.specs.Lists.{Matched}
-use Rattle.std.proofs.Common.{◌≡◌, ◌⊎◌, List, [], ◌∷◌, map, sym, refl, ap, subst, inl, inr, ⊎_elim}
+use Rattle.std.proofs.Common.{◌≡◌, ◌⊎◌, List, [], ◌∷◌, map, sym, refl, subst, inl, inr, ⊎_elim}
 use mathlib.Core.List.Memᴰ
 use mathlib.Core.List.{Memᴰ}
 
@@ -36,15 +36,6 @@ matched_unmap R S g f (x ∷ xs) (z ∷ zs) h = (f x z h.0, matched_unmap R S g 
 -- some member has the property
 abbrev pub Some : {A : Type 0} → (A → Type 0) → List A → Type 0
 Some {A} P xs = (x : A) × Memᴰ x xs × P x
-
-pub map_in : {A B : Type 0} (f : A → B) {x : A} {xs : List A} → Memᴰ x xs → Memᴰ (f x) (map f xs)
-map_in f (Memᴰ.head p) = Memᴰ.head (ap f p)
-map_in f (Memᴰ.tail m) = Memᴰ.tail (map_in f m)
-
-pub map_out : {A B : Type 0} (f : A → B) {y : B} (xs : List A) → Memᴰ y (map f xs) → Some (λ x. y ≡ f x) xs
-map_out f [] m = absurd (Memᴰ.not-nil m)
-map_out f (x ∷ xs) (Memᴰ.head p) = (x, Memᴰ.head refl, p)
-map_out f (x ∷ xs) (Memᴰ.tail m) = let t = map_out f xs m in (t.0, Memᴰ.tail t.1, t.2)
 
 pub joined_in : {A B : Type 0} (f : A → List B) {y : B} {x : A} {xs : List A} → Memᴰ x xs → Memᴰ y (f x) → Memᴰ y (flat_map f xs)
 joined_in f {y} (Memᴰ.head {xs = xs} p) m = Memᴰ.append_left (flat_map f xs) (subst (λ x. Memᴰ y (f x)) p m)

@@ -4,7 +4,7 @@ use Rattle.std.proofs.Common.{◌≡◌, ℕ, zero, suc, Bool, true, ◌⊎◌, 
 use Rattle.std.proofs.ByRecursion.{All-map, All-weaker}
 use Rattle.std.proofs.lemmas.Bool.{false≢true, or_cases, cond_both}
 use Rattle.std.specs.List.{AllByRecursion}
-use Rattle.theory.proofs.Lists.{each, every, map_in}
+use Rattle.theory.proofs.Lists.{each, every}
 use Rattle.theory.proofs.Occurrences.{times_in}
 use Rattle.theory.proofs.Terms.{all_terms_map}
 use Rattle.theory.proofs.Tidying.{opened_variable, lone_not_head}
@@ -169,7 +169,7 @@ changed_covered f p xs ys keeps (Variable n) m = covered_from (map (on_terms f) 
   where
     there : Kept f (Variable n) (all_terms ys) → Among (f (Variable n)) (map (on_terms f) ys)
     there (u, k, inl e) = absurd (subst NotOpen e (p.variables n))
-    there (u, k, inr e) = subst (Memᴰ (f (Variable n))) (sym (all_terms_map f ys)) (Memᴰ.cast e (map_in f k))
+    there (u, k, inr e) = subst (Memᴰ (f (Variable n))) (sym (all_terms_map f ys)) (Memᴰ.cast e (Memᴰ.map f k))
 changed_covered f p xs ys keeps (Constant a) m = subst (Covered (map (on_terms f) ys)) (sym (p.names a)) tt
 changed_covered f p xs ys keeps Open m = absurd m
 
@@ -225,7 +225,7 @@ round_safe q h = every (Covered new) q.head (λ t m. one t m (each (Covered q.at
     one (Variable n) m k =
         let stays = opened_variable test n (lone_not_head q.head (all_terms kept) n (times_in n q.head m)) in
         let among : Among (Variable n) kept = ⊎_elim (λ i. among_none i) (λ i. i) (once_among [] q.atoms k) in
-        subst (Memᴰ (Variable n)) (sym (all_terms_map (opened test) kept)) (Memᴰ.cast (sym stays) (map_in (opened test) among))
+        subst (Memᴰ (Variable n)) (sym (all_terms_map (opened test) kept)) (Memᴰ.cast (sym stays) (Memᴰ.map (opened test) among))
     one (Constant a) m k = tt
     one Open m k = absurd k
 

@@ -28,6 +28,7 @@ impl Fact {
 }
 
 /// Two facts are the same where kind and numbers are.
+/// By hand: a derive does not promise sameness, and leaves no line in which an edit could turn its meaning.
 impl PartialEq for Fact {
     ghost eq = { fact_eq };
 

@@ -1,6 +1,7 @@
 //! Numbers of classes, links and names, each of a type of its own, so that none can be taken for another.
 //!
 //! A value may be out of range: a call that is given one refuses it.
+//! Each type has a test of one line: a trait for the three would be longer, and no caller takes any of them.
 
 ghost use Rattle.std.specs.Prelude.{Decides};
 ghost use Rattle.vocabulary.specs.Ranges.{ClassFits, LinkFits, NameFits};

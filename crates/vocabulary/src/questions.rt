@@ -15,6 +15,8 @@ pub enum Term {
     Open,
 }
 
+/// Two terms are the same where kind and number are.
+/// By hand: a derive does not promise sameness, and leaves no line in which an edit could turn its meaning.
 impl PartialEq for Term {
     ghost eq = { term_eq };
 
@@ -40,6 +42,8 @@ pub enum Atom {
     Joins(Link, Term, Term),
 }
 
+/// Two atoms are the same where kind, number and terms are.
+/// By hand: a derive does not promise sameness, and leaves no line in which an edit could turn its meaning.
 impl PartialEq for Atom {
     ghost eq = { atom_eq };
 

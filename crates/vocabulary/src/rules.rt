@@ -42,6 +42,7 @@ impl Rule {
 }
 
 /// Two rules are the same where form and codes are.
+/// By hand: a derive does not promise sameness, and leaves no line in which an edit could turn its meaning.
 impl PartialEq for Rule {
     ghost eq = { rule_eq };
 

@@ -1,11 +1,11 @@
-use Rattle.std.proofs.Common.{◌/◌, ◌%◌, get_or, sym}
-use Rattle.bits.proofs.Words.{bit_past, bit_shr}
+use Rattle.std.proofs.Common.{◌/◌, ◌%◌, ◌^◌, ℕ, ap, ◌∙◌, nat_eq}
+use Rattle.bits.proofs.Words.{bit_shr}
 use Rattle.bits.proofs.table.get.Goals as goal
-use Rattle.bits.specs.Words.{bit}
-
-pub returns-then-i-words : goal.returns-then-i-words
-returns-then-i-words c = sym (bit_past c.args.words.now c.args.m c.if-i-words.true)
+use Rattle.bits.specs.Words.{bit, word}
+use Rattle.std.specs.Int.Bits.{bit_and}
 
 pub returns : goal.returns
 unfolding bit
-returns c = bit_shr (get_or c.args.words.now (c.args.m / 64) 0) (c.args.m % 64)
+returns c =
+    let j = c.args.m % 64 in
+    ap (λ (w : ℕ). nat_eq (bit_and (w / 2 ^ j) 1) 1) c.word_at.ensures ∙ bit_shr (word c.args.words.now (c.args.m / 64)) j

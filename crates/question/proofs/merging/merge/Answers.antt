@@ -1,6 +1,9 @@
 use Rattle.question.proofs.Exact.{merges_all}
 use Rattle.question.proofs.merging.merge.Goals as goal
+use Rattle.std.proofs.Common.{rules}
 
-pub returns : goal.returns
-returns c =
-    record { made = c.merge_atoms.ensures; exact = merges_all c.args.a c.args.b c.merge_atoms.result c.merge_atoms.ensures }
+pub returns-in-IsIn-IsIn-clause-exact : goal.returns-in-IsIn-IsIn-clause-exact
+returns-in-IsIn-IsIn-clause-exact c = merges_all _ _ _ (search rules)
+
+pub returns-in-Joins-Joins-clause-exact : goal.returns-in-Joins-Joins-clause-exact
+returns-in-Joins-Joins-clause-exact c = merges_all _ _ _ (search rules)

@@ -1,18 +1,14 @@
 use Rattle.question.proofs.Once.{once_onto, once_turn, once_room, once_end}
-use Rattle.question.proofs.Shorts.{listed_few}
 use Rattle.question.proofs.opening.once_each.Goals as goal
 use Rattle.vocabulary.specs.declared.questions.Atom.{Atom}
 use Rattle.std.proofs.Common.{List, length, ap, arith}
 
-pub with_new-made-requires : goal.with_new-made-requires
-with_new-made-requires c = omega (arith, listed_few c.args.xs.now, ap length c.all-all.ensures)
-
 pub loop-a-init : goal.loop-a-init
-loop-a-init c = (ap (λ (ys : List Atom). once_onto ys c.all-all.result.now) c.empty-made.ensures, omega (arith, ap length c.empty-made.ensures))
+loop-a-init c = (ap (λ (ys : List Atom). once_onto ys c.all-a-items.result.now) c.empty-made.ensures, omega (arith, ap length c.empty-made.ensures))
 
 pub loop-a-preserved : goal.loop-a-preserved
 loop-a-preserved c =
-    (once_turn _ _ _ _ _ _ c.loop-a-test.true c.with_new-made.ensures c.loop-a.invariant.0, omega (arith, once_room _ _ _ c.with_new-made.ensures))
+    (once_turn _ _ _ _ _ _ c.loop-a-test.true c.keep.ensures c.loop-a.invariant.0, omega (arith, once_room _ _ _ c.keep.ensures))
 
 pub returns : goal.returns
-returns c = once_end _ _ _ _ c.all-all.ensures c.loop-a-test.false c.loop-a.invariant.0
+returns c = once_end _ _ _ _ c.all-a-items.ensures.same c.loop-a-test.false c.loop-a.invariant.0

@@ -4,4 +4,4 @@ use Rattle.question.proofs.opening.once_each.Given as goal
 use Rattle.question.specs.Shorts.{listed}
 
 abbrev pub invariant-loop-a : goal.invariant-loop-a
-invariant-loop-a l = (once_onto (listed l.made) (drop l.a-index l.all) ≡ once_onto [] l.all) × (length (listed l.made) ≤ l.a-index)
+invariant-loop-a l = (once_onto (listed l.made) (drop l.a-index l.a-items) ≡ once_onto [] l.a-items) × (length (listed l.made) ≤ l.a-index)

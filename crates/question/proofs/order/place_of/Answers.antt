@@ -1,14 +1,18 @@
-use Rattle.question.proofs.Ordering.{knows_on, knows_end, place_here, place_on}
+use Rattle.question.proofs.Ordering.{position_place}
 use Rattle.question.proofs.order.place_of.Goals as goal
-use Rattle.std.proofs.lemmas.Bool.{false≢true}
-use Rattle.std.proofs.Common.{◌∙◌, arith}
+use Rattle.question.specs.Shorts.{listed}
+use Rattle.std.proofs.Common.{◌==◌, ◌∙◌, rules, tests}
+use Rattle.std.proofs.lemmas.Iterator.Search.{position_from_yields_List}
+use Rattle.std.proofs.lemmas.Iterator.{YieldsList-from_slice}
 
-pub returns-then-n-m : goal.returns-then-n-m
-returns-then-n-m c = omega (arith, place_here _ _ _ c.loop-m-test.true c.if-n-m.true)
+pub unwrap-requires : goal.unwrap-requires
+unwrap-requires c =
+    let e = position_from_yields_List (λ m. c.args.n == m) _ _ c.position.result c.position.ensures.ran (YieldsList-from_slice (listed c.args.order.now) cc) (λ x b q k. search (rules, tests)) in
+    let f = e ∙ position_place c.args.n (listed c.args.order.now) c.requires in
+    search rules
 
-pub loop-m-preserved : goal.loop-m-preserved
-loop-m-preserved c =
-    (omega arith, omega (arith, place_on _ _ _ c.loop-m-test.true c.if-n-m.false), knows_on _ _ _ c.loop-m-test.true c.if-n-m.false ∙ c.loop-m.invariant.2)
-
-pub unreachable-requires : goal.unreachable-requires
-unreachable-requires c = false≢true (knows_end _ _ _ c.loop-m-test.false ∙ c.loop-m.invariant.2)
+pub returns : goal.returns
+returns c =
+    let e = position_from_yields_List (λ m. c.args.n == m) _ _ c.position.result c.position.ensures.ran (YieldsList-from_slice (listed c.args.order.now) cc) (λ x b q k. search (rules, tests)) in
+    let f = e ∙ position_place c.args.n (listed c.args.order.now) c.requires in
+    search rules

@@ -12,9 +12,9 @@ pub loop-done-preserved : goal.loop-done-preserved
 loop-done-preserved c =
     let e = c.in_ok-put_next.ensures in
     let low : c.loop-done.done < length (items c.loop-done.table) = omega (arith, c.len.ensures) in (
-      λ q before w. working_turn c.index-items-done.result _ q before _ _ _ _ low (item_is _ _ _ _ c.items.ensures c.index-items-done.is) (c.loop-done.invariant.0 q before w) e.taken,
-      e.taken.grown.size ∙ c.loop-done.invariant.1,
-      e.lent ∙ c.loop-done.invariant.2,
+      λ q before w. working_turn c.index-items-done.result _ q before _ _ _ _ low (item_is _ _ _ _ c.items.ensures c.index-items-done.is) (c.loop-done.invariant.0 q before w) e,
+      e.grown.size ∙ c.loop-done.invariant.1,
+      e.grown.lent ∙ c.loop-done.invariant.2,
     )
 
 pub returns-in_err-put_next : goal.returns-in_err-put_next
@@ -23,9 +23,9 @@ returns-in_err-put_next c =
     let e = c.in_err-put_next.ensures in
     let low : c.loop-done.done < length (items c.loop-done.table) = omega (arith, c.len.ensures) in
     record {
-      worked = λ q before w. worked_exit _ q before c.put_next.new.table _ _ _ p.1 p.2 e.taken.0
-          (working_over c.index-items-done.result _ q before _ _ _ _ low (item_is _ _ _ _ c.items.ensures c.index-items-done.is) (c.loop-done.invariant.0 q before w) e.taken.1);
-      lent = e.lent ∙ c.loop-done.invariant.2;
+      worked = λ q before w. worked_exit _ q before c.put_next.new.table _ _ _ p.1 p.2 e.0
+          (working_over c.index-items-done.result _ q before _ _ _ _ low (item_is _ _ _ _ c.items.ensures c.index-items-done.is) (c.loop-done.invariant.0 q before w) e.1);
+      lent = e.1.grown.lent ∙ c.loop-done.invariant.2;
     }
 
 pub returns : goal.returns

@@ -1,22 +1,18 @@
-use Rattle.std.proofs.Common.{◌≡◌, ℕ, ◌+◌, ◌*◌, List, sym, ◌∙◌, subst, ap₂, arith, below_more}
-use Rattle.bits.proofs.Inheriting.{row_covers}
+use Rattle.std.proofs.Common.{◌∙◌, ◌≡◌, ℕ, ◌==◌, sym, subst₂, arith, rules, tests}
+use Rattle.bits.proofs.Inheriting.{row_covers, zipped_all}
 use Rattle.bits.proofs.relation.Relation.covers.Goals as goal
-use Rattle.bits.specs.Relations.{Covers}
-use Rattle.bits.specs.Words.{word}
+use Rattle.std.proofs.lemmas.Iterator.{YieldsList-from_slice, YieldsList-from_zip}
+use Rattle.std.proofs.lemmas.Iterator.Search.{all_from_yields_List}
 use Rattle.std.specs.Int.Bits.{bit_or}
 
-pub loop-j-preserved : goal.loop-j-preserved
-loop-j-preserved c =
-    let z = c.args.self.now.stride in
-    let t = c.words-words.result.now in
-    below_more
-    (λ j. bit_or (word t (z * c.args.to + j)) (word t (z * c.args.from + j)) ≡ word t (z * c.args.from + j))
-    c.loop-j.j
-    c.loop-j.invariant
-    (ap₂ bit_or (sym c.word_at.ensures) (sym c.word_at-mine.ensures) ∙ c.if-word_at-mine.false ∙ c.word_at-mine.ensures)
-
 pub returns : goal.returns
-returns c e h =
-    let z = c.args.self.now.stride in
-    subst (λ (t : List ℕ). Covers z t c.args.from c.args.to (64 * z)) c.words-words.ensures
-    (row_covers z c.words-words.result.now c.args.from c.args.to (λ j l. c.loop-j.invariant j (let r = c.loop-j-test.false in omega arith)) h)
+returns g c e h =
+    let z = g.row.STRIDE in
+    let t = c.args.self.now.bits.words.now in
+    let theirs = c.row.result.now in
+    let mine = c.row-2.result.now in
+    let all = all_from_yields_List {s = c.zip.result} (λ (p : ℕ × ℕ). bit_or p.0 p.1 == p.1) c.all.new.self _ c.all.result c.all.ensures.ran
+    (YieldsList-from_zip (YieldsList-from_slice theirs cc) (YieldsList-from_slice mine cc)) (λ x b q k. search (rules, tests)) in
+    row_covers z t c.args.from c.args.to
+    (λ j l. subst₂ (λ (x y : ℕ). bit_or x y ≡ y) (c.row.ensures.words j l) (c.row-2.ensures.words j l)
+    (zipped_all theirs mine (sym e ∙ all) j (omega (arith, c.row.ensures.length)) (omega (arith, c.row-2.ensures.length)))) h

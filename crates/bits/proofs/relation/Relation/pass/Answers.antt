@@ -5,12 +5,9 @@ use Rattle.std.proofs.lemmas.Bool.{false≢true}
 use Rattle.std.proofs.Common.{refl}
 
 pub returns-then-has : goal.returns-then-has
-returns-then-has c =
+returns-then-has g c =
     let o = c.if-has.ensures.0 refl in
-    record { stride = c.add.ensures.stride; grows = inherits_one o (λ v h l _. h l o.column) c.add.ensures.grows }
+    inherits_one o (λ v h l _. h l o.column) c.add.ensures
 
 pub returns-else-has : goal.returns-else-has
-returns-else-has c = record {
-  stride = refl;
-  grows = grows_none (λ x y h. base h) (λ l o. absurd (false≢true (c.if-has.ensures.1 o)));
-}
+returns-else-has g c = grows_none (λ x y h. base h) (λ l o. absurd (false≢true (c.if-has.ensures.1 o)))

@@ -1,91 +1,39 @@
-use Rattle.std.proofs.Common.{◌+◌, ◌/◌, refl, inl, inr, arith, length-set}
-use Rattle.std.proofs.lemmas.Bool.Decides.{not_from_Decides}
-use Rattle.facts.specs.Changes.{NamesBelow, not_taken, out_of_range}
-use Rattle.vocabulary.specs.Ranges.{FactFits}
-use Rattle.bitstore.specs.Marks.{bit_at}
-use Rattle.bitstore.proofs.Groups.{counts_le}
-use Rattle.bitstore.proofs.Order.{inserted_is}
-use Rattle.bitstore.proofs.Stored.{up_far, up_held, up_near, up_parted}
-use Rattle.bitstore.proofs.Held.{count_facts, facts_different, facts_fit, facts_order, facts_short}
-use Rattle.facts.proofs.Listing.{parted_added}
+use Rattle.std.proofs.Common.{refl, sym, arith}
 use Rattle.std.proofs.lemmas.Bool.{false≢true}
+use Rattle.facts.proofs.Listing.{parted_added}
+use Rattle.facts.proofs.Places.{untouched}
+use Rattle.facts.specs.Changes.{not_taken, out_of_range}
+use Rattle.bitstore.proofs.Held.{count_facts, facts_different, facts_order, stands_bit}
+use Rattle.bitstore.proofs.Order.{inserted_is}
+use Rattle.bitstore.proofs.Stored.{fact_in, fact_out, parted_in}
 use Rattle.bitstore.proofs.store.BitStoreStore.enter.Goals as goal
 
-pub overflow_add-self-2 : goal.overflow_add-self-2
-overflow_add-self-2 c =
+pub returns-then-not-fits-clause-entered : goal.returns-then-not-fits-clause-entered
+returns-then-not-fits-clause-entered c = (out_of_range (λ h. false≢true (c.if-not-fits.ensures.1 h)), untouched)
+
+pub returns-in_default-clause-entered : goal.returns-in_default-clause-entered
+returns-in_default-clause-entered c =
     let s = c.args.self.now in
-    omega (arith, counts_le (bit_at s.table.now) 16384 32 (c.position-k.result / 16384) s.wide s.far (omega arith))
+    (not_taken (c.if-not-fits.ensures.0 refl) (λ m. c.in_default.ensures (stands_bit s.names s.table.now (omega arith) c.args.fact m).0) (λ t. c.in_default.ensures t.0), untouched)
 
-pub overflow_add-self-3 : goal.overflow_add-self-3
-overflow_add-self-3 c =
+pub returns-then-is_set-clause-entered : goal.returns-then-is_set-clause-entered
+returns-then-is_set-clause-entered c = (fact_in c.args.self.now c.args.fact c.in-Some.k c.in-Some.ensures (sym c.if-is_set.ensures), untouched)
+
+pub returns-then-self-ge-MOST-clause-entered : goal.returns-then-self-ge-MOST-clause-entered
+returns-then-self-ge-MOST-clause-entered c =
     let s = c.args.self.now in
-    omega (arith, counts_le (bit_at s.table.now) 512 1024 (c.position-k.result / 512) s.close s.near (omega arith))
+    (not_taken (c.if-not-fits.ensures.0 refl) (fact_out s c.args.fact c.in-Some.k c.in-Some.ensures (sym c.if-is_set.ensures)) (λ t. absurd (omega (arith, count_facts s.names s.table.now, t.1))), untouched)
 
-pub invariant_of-self : goal.invariant_of-self
-invariant_of-self c =
+pub returns-clause-entered : goal.returns-clause-entered
+returns-clause-entered c =
     let s = c.args.self.now in
-    let f = c.args.fact in
-    let k = c.position-k.result in
-    let at = c.position-k.ensures in
-    let out = not_from_Decides c.stands.result c.stands.ensures c.if-stands.false in
-    let low : NamesBelow s.names f = c.has_bit.ensures.0 c.if-not-has_bit.false in
-    record {
-      some = s.some;
-      most = s.most;
-      size = simp length-set s.size;
-      held = up_held s f k at out low;
-      small = omega arith;
-      far = up_far s f k at out low (omega arith);
-      near = up_near s f k at out low (omega arith);
-      few = facts_short s.names _ (s.count + 1) (up_held s f k at out low) (omega arith);
-      different = ∣ facts_different s.names _ (omega arith) ∣₁;
-      fitting = ∣ facts_fit s.names _ (omega arith) (omega arith) ∣₁;
-    }
+    let t = c.turn.new.self in
+    let p = parted_in s c.args.fact c.in-Some.k c.in-Some.ensures t c.turn.ensures.names c.turn.ensures.bit in
+    (c.if-not-fits.ensures.0 refl, (c.in-Some.ensures.0, omega (arith, count_facts s.names s.table.now)), parted_added p (facts_different t.names t.table.now (omega arith)))
 
-pub returns-then-not-fits : goal.returns-then-not-fits
-returns-then-not-fits c = record {
-  entered = (out_of_range (λ h. false≢true (c.if-not-fits.ensures.1 h)), record { list = refl; takes = λ g. (λ h. h, λ h. h) });
-  order = refl;
-  names = refl;
-  table = refl;
-}
-
-pub returns-then-stands : goal.returns-then-stands
-returns-then-stands c = record {
-  entered = (c.if-stands.ensures.0 refl, record { list = refl; takes = λ g. (λ h. h, λ h. h) });
-  order = refl;
-  names = refl;
-  table = refl;
-}
-
-pub returns-then-not-has_bit : goal.returns-then-not-has_bit
-returns-then-not-has_bit c =
+pub returns-clause-order : goal.returns-clause-order
+returns-clause-order c =
     let s = c.args.self.now in
-    let out = not_from_Decides c.stands.result c.stands.ensures c.if-stands.false in
-    record {
-      entered = (
-        not_taken (c.if-not-fits.ensures.0 refl) out (λ t. elim c.then-not-has_bit.either [
-          | inl e ↦ not_from_Decides c.has_bit.result c.has_bit.ensures e t.0
-          | inr e ↦ absurd (omega (arith, count_facts s.names s.table.now, t.1, e.1))
-        ]),
-        record { list = refl; takes = λ g. (λ h. h, λ h. h) },
-      );
-      order = refl;
-      names = refl;
-      table = refl;
-    }
-
-pub returns : goal.returns
-returns c =
-    let s = c.args.self.now in
-    let f = c.args.fact in
-    let fit : FactFits f = c.if-not-fits.ensures.0 refl in
-    let out = not_from_Decides c.stands.result c.stands.ensures c.if-stands.false in
-    let low : NamesBelow s.names f = c.has_bit.ensures.0 c.if-not-has_bit.false in
-    let p = up_parted s f c.position-k.result c.position-k.ensures out low in
-    record {
-      entered = (fit, (low, omega (arith, count_facts s.names s.table.now, c.if-count-ge-MOST.false)), parted_added p (facts_different s.names _ (omega arith)));
-      order = inserted_is p (facts_order s.names _ (omega arith));
-      names = refl;
-      table = tt;
-    }
+    let t = c.turn.new.self in
+    let p = parted_in s c.args.fact c.in-Some.k c.in-Some.ensures t c.turn.ensures.names c.turn.ensures.bit in
+    inserted_is p (facts_order t.names t.table.now (omega arith))

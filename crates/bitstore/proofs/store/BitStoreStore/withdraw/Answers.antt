@@ -1,77 +1,30 @@
-use Rattle.std.proofs.Common.{◌-◌, sym, refl, arith, length-set}
-use Rattle.bitstore.proofs.Held.{count_facts, facts_different, facts_fit, facts_short}
+use Rattle.std.proofs.Common.{refl, sym, subst, arith}
 use Rattle.facts.proofs.Listing.{parted_added, parted_without}
-use Rattle.std.proofs.lemmas.Bool.{false≢true}
-use mathlib.Core.List.{Memᴰ}
-use Rattle.bitstore.proofs.Stored.{down_far, down_held, down_near, down_parted, facts, has_below, some, some_far, some_near}
+use Rattle.facts.proofs.Places.{untouched}
+use Rattle.facts.specs.Changes.{NamesBelow}
+use Rattle.bitstore.proofs.Held.{count_facts, facts_different, stands_bit}
+use Rattle.bitstore.proofs.Stored.{fact_out, parted_out}
 use Rattle.bitstore.proofs.store.BitStoreStore.withdraw.Goals as goal
 
-pub position-k-requires : goal.position-k-requires
-position-k-requires c =
+pub returns-in-Some-clause-withdrawn : goal.returns-in-Some-clause-withdrawn
+returns-in-Some-clause-withdrawn c =
     let s = c.args.self.now in
     let f = c.args.fact in
-    let has : Memᴰ f (facts s f) = c.stands.ensures.0 c.if-not-stands.false in
-    (has_below s f has, omega arith)
+    let p = parted_out s f c.in-Some.k c.in-Some.ensures c.turn.new.self c.turn.ensures.names c.turn.ensures.bit in
+    let added = parted_added p (facts_different s.names s.table.now (omega arith)) in
+    (added, (subst (λ n. NamesBelow n f) (sym c.turn.ensures.names) c.in-Some.ensures.0, omega (arith, added.count, count_facts s.names s.table.now)))
 
-pub overflow_sub-self : goal.overflow_sub-self
-overflow_sub-self c =
+pub returns-in-Some-clause-order : goal.returns-in-Some-clause-order
+returns-in-Some-clause-order c =
     let s = c.args.self.now in
-    let f = c.args.fact in
-    let has : Memᴰ f (facts s f) = c.stands.ensures.0 c.if-not-stands.false in
-    some s f c.position-k.result c.position-k.ensures has
+    let p = parted_out s c.args.fact c.in-Some.k c.in-Some.ensures c.turn.new.self c.turn.ensures.names c.turn.ensures.bit in
+    sym (parted_without p (facts_different s.names s.table.now (omega arith)))
 
-pub overflow_sub-self-2 : goal.overflow_sub-self-2
-overflow_sub-self-2 c =
+pub returns-in_default-clause-withdrawn : goal.returns-in_default-clause-withdrawn
+returns-in_default-clause-withdrawn c =
+    (c.if-not-fits.ensures.0 refl, fact_out c.args.self.now c.args.fact c.in-Some.k c.in-Some.ensures (sym c.if-is_set.ensures), untouched)
+
+pub returns-in_default-2-clause-withdrawn : goal.returns-in_default-2-clause-withdrawn
+returns-in_default-2-clause-withdrawn c =
     let s = c.args.self.now in
-    let f = c.args.fact in
-    let has : Memᴰ f (facts s f) = c.stands.ensures.0 c.if-not-stands.false in
-    some_far s f c.position-k.result c.position-k.ensures has
-
-pub overflow_sub-self-3 : goal.overflow_sub-self-3
-overflow_sub-self-3 c =
-    let s = c.args.self.now in
-    let f = c.args.fact in
-    let has : Memᴰ f (facts s f) = c.stands.ensures.0 c.if-not-stands.false in
-    some_near s f c.position-k.result c.position-k.ensures has
-
-pub invariant_of-self : goal.invariant_of-self
-invariant_of-self c =
-    let s = c.args.self.now in
-    let f = c.args.fact in
-    let has : Memᴰ f (facts s f) = c.stands.ensures.0 c.if-not-stands.false in
-    let k = c.position-k.result in
-    let at = c.position-k.ensures in
-    record {
-      some = s.some;
-      most = s.most;
-      size = simp length-set s.size;
-      held = down_held s f k at has;
-      small = omega arith;
-      far = down_far s f k at has (omega arith);
-      near = down_near s f k at has (omega arith);
-      few = facts_short s.names _ (s.count - 1) (down_held s f k at has) (omega arith);
-      different = ∣ facts_different s.names _ (omega arith) ∣₁;
-      fitting = ∣ facts_fit s.names _ (omega arith) (omega arith) ∣₁;
-    }
-
-pub returns-then-not-stands : goal.returns-then-not-stands
-returns-then-not-stands c = record {
-  withdrawn = (c.if-not-fits.ensures.0 refl, (λ m. false≢true (c.if-not-stands.ensures.1 m)), record { list = refl; takes = λ g. (λ h. h, λ h. h) });
-  order = refl;
-  names = refl;
-  table = refl;
-}
-
-pub returns : goal.returns
-returns c =
-    let s = c.args.self.now in
-    let f = c.args.fact in
-    let has : Memᴰ f (facts s f) = c.stands.ensures.0 c.if-not-stands.false in
-    let p = down_parted s f c.position-k.result c.position-k.ensures has in
-    let all = facts_different s.names s.table.now (omega arith) in
-    record {
-      withdrawn = (parted_added p all, (has_below s f has, omega (arith, (parted_added p all).count, count_facts s.names s.table.now)));
-      order = sym (parted_without p all);
-      names = refl;
-      table = tt;
-    }
+    (c.if-not-fits.ensures.0 refl, (λ m. c.in_default.ensures (stands_bit s.names s.table.now (omega arith) c.args.fact m).0), untouched)

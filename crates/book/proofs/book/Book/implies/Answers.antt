@@ -3,17 +3,10 @@ use Rattle.distinct.proofs.Decided.{member_answered}
 use Rattle.book.proofs.Spreading.{class_reaches, link_reaches, own_kind}
 use Rattle.book.proofs.book.Book.implies.Goals as goal
 use Rattle.std.proofs.lemmas.Bool.Decides.{Decides-like, Decides-or}
-use Rattle.std.proofs.Common.{◌≡◌, Bool, ◌||◌, List, Decides, sym, subst}
-use Rattle.theory.specs.Following.{Implied}
+use Rattle.std.proofs.Common.{subst}
 use Rattle.vocabulary.specs.Equality.{rule_eq, rule_eq_same}
 use Rattle.vocabulary.specs.Ranges.{RuleFits}
-use Rattle.vocabulary.specs.declared.rules.Family.{Family}
-use Rattle.vocabulary.specs.declared.rules.Rule.{Rule}
 use Rattle.vocabulary.specs.declared.rules.Rule.TheVariants.{Single}
-
--- the contract speaks of the rule, the arm of what it is
-for_rule : (family : Family) (rules : List Rule) {rule same : Rule} (r : Bool) → rule ≡ same → Decides r (Implied family rules same) → Decides r (Implied family rules rule)
-for_rule family rules r e h = subst (λ (x : Rule). Decides r (Implied family rules x)) (sym e) h
 
 pub reaches-requires : goal.reaches-requires
 reaches-requires c =
@@ -32,20 +25,18 @@ returns-in-Within c =
     let s = c.args.self.now in
     let x = c.reaches.result in
     let y = c.empties.result in
-    for_rule s.family s.rules.now (x || y) c.in-Within.is (Decides-or x y (Decides-like x own_kind class_reaches c.reaches.ensures) c.empties.ensures)
+    rw c.in-Within.is (Decides-or x y (Decides-like x own_kind class_reaches c.reaches.ensures) c.empties.ensures)
 
 pub returns-in-LinkWithin : goal.returns-in-LinkWithin
 returns-in-LinkWithin c =
     let s = c.args.self.now in
     let x = c.reaches-in-LinkWithin.result in
     let y = c.empties-in-LinkWithin.result in
-    for_rule s.family s.rules.now (x || y) c.in-LinkWithin.is
-    (Decides-or x y (Decides-like x own_kind link_reaches c.reaches-in-LinkWithin.ensures) c.empties-in-LinkWithin.ensures)
+    rw c.in-LinkWithin.is (Decides-or x y (Decides-like x own_kind link_reaches c.reaches-in-LinkWithin.ensures) c.empties-in-LinkWithin.ensures)
 
 pub returns-in-Single : goal.returns-in-Single
 returns-in-Single c =
     let s = c.args.self.now in
     let x = c.contains.result in
     let y = c.empties-in-Single.result in
-    for_rule s.family s.rules.now (x || y) c.in-Single.is
-    (Decides-or x y (member_answered rule_eq rule_eq_same s.rules.now (Single c.in-Single.d) x c.contains.ensures.cases) c.empties-in-Single.ensures)
+    rw c.in-Single.is (Decides-or x y (member_answered rule_eq rule_eq_same s.rules.now (Single c.in-Single.d) x c.contains.ensures.cases) c.empties-in-Single.ensures)

@@ -1,24 +1,22 @@
-use Rattle.distinct.proofs.Decided.{kept_same, outcome_same}
+use Rattle.distinct.proofs.Decided.{kept_same, outcome_same, outcome_told}
 use Rattle.distinct.proofs.Sameness.{Same, absent_not, all_put, different_repeats, present_member, repeats_different}
+use Rattle.distinct.proofs.Told.{told_full, told_ok}
 use Rattle.distinct.specs.Items.{items}
-use Rattle.distinct.specs.declared.Put.TheVariants.{Added, Full, Stands}
 use Rattle.facts.proofs.Listing.{appended_added}
-use Rattle.facts.proofs.Places.{full, has_room, kept}
+use Rattle.facts.proofs.Places.{full, has_room, kept, untouched}
 use Rattle.facts.proofs.list.ListStoreStore.enter.Goals as goal
 use Rattle.facts.specs.Changes.{not_taken, out_of_range}
 use Rattle.facts.specs.Passes.{ListPlaces}
 use Rattle.std.proofs.lemmas.Bool.{false≢true}
+use Rattle.std.proofs.lemmas.Result.{err_from_is_err_and}
+use Rattle.vocabulary.specs.declared.faults.Fault.TheVariants.{NotTaken}
 use Rattle.vocabulary.specs.Equality.{fact_eq, fact_eq_same}
 use Rattle.vocabulary.specs.Ranges.{FactFits}
-use Rattle.std.proofs.Common.{length, sym, refl, subst}
+use Rattle.std.proofs.Common.{◌≡◌, true, false, Ok, length, sym, refl, ap, ◌∙◌, subst, rules}
 use mathlib.Core.Logic.{∥∥₁_map}
 
-pub returns-then-not-fits : goal.returns-then-not-fits
-returns-then-not-fits c = record {
-  entered = (out_of_range (λ h. false≢true (c.if-not-fits.ensures.1 h)), record { list = refl; takes = λ g. (λ h. h, λ h. h) });
-  order = refl;
-  places = refl;
-}
+pub returns-then-not-fits-clause-entered : goal.returns-then-not-fits-clause-entered
+returns-then-not-fits-clause-entered c = (out_of_range (λ h. false≢true (c.if-not-fits.ensures.1 h)), untouched)
 
 pub invariant_of-self : goal.invariant_of-self
 invariant_of-self c =
@@ -33,34 +31,32 @@ invariant_of-self c =
       fitting = ∥∥₁_map s.fitting (all_put Same FactFits s.held t c.args.fact c.put.result o (c.if-not-fits.ensures.0 refl));
     }
 
-pub returns-in-Added : goal.returns-in-Added
-returns-in-Added c =
+pub returns-then-new-clause-entered : goal.returns-then-new-clause-entered
+returns-then-new-clause-entered c =
     let s = c.args.self.now in
-    let o = outcome_same fact_eq fact_eq_same s.held c.put.new.self c.args.fact Added c.in-Added.ensures.outcome in
-    record {
-      entered = (c.if-not-fits.ensures.0 refl, has_room s.held.len s.held.places.now o.1, appended_added (items s.held) c.args.fact (absent_not (items s.held) c.args.fact o.0) o.2);
-      order = o.2;
-      places = o.3;
-    }
+    let t = c.put.new.self in
+    let f = c.args.fact in
+    let told : c.put.result ≡ Ok true = told_ok _ _ c.put.result c.in_ok-new.new c.in_ok-new.ensures.cases c.in_ok-new.ensures.variant ∙ ap Ok c.if-new.true in
+    let o = outcome_told fact_eq fact_eq_same s.held t f told c.put.ensures.outcome in
+    (c.if-not-fits.ensures.0 refl, has_room s.held.len s.held.places.now o.1, appended_added (items s.held) f (absent_not (items s.held) f o.0) o.2)
 
-pub returns-in-Stands : goal.returns-in-Stands
-returns-in-Stands c =
+pub returns-else-new-clause-entered : goal.returns-else-new-clause-entered
+returns-else-new-clause-entered c =
     let s = c.args.self.now in
-    let e = c.in-Stands.ensures in
-    let o = outcome_same fact_eq fact_eq_same s.held c.put.new.self c.args.fact Stands e.outcome in
-    record {
-      entered = (present_member (items s.held) c.args.fact o.0, kept (length s.held.places.now) _ (items s.held) _ e.room o.1);
-      order = o.1;
-      places = o.2;
-    }
+    let t = c.put.new.self in
+    let f = c.args.fact in
+    let told : c.put.result ≡ Ok false = told_ok _ _ c.put.result c.in_ok-new.new c.in_ok-new.ensures.cases c.in_ok-new.ensures.variant ∙ ap Ok c.if-new.false in
+    let o = outcome_told fact_eq fact_eq_same s.held t f told c.put.ensures.outcome in
+    (present_member (items s.held) f o.0, kept (length s.held.places.now) _ (items s.held) _ c.put.ensures.room o.1)
 
-pub returns-in-Full : goal.returns-in-Full
-returns-in-Full c =
+pub returns-in_err-new-clause-entered : goal.returns-in_err-new-clause-entered
+returns-in_err-new-clause-entered c =
     let s = c.args.self.now in
-    let e = c.in-Full.ensures in
-    let o = outcome_same fact_eq fact_eq_same s.held c.put.new.self c.args.fact Full e.outcome in
-    record {
-      entered = (not_taken (c.if-not-fits.ensures.0 refl) (absent_not (items s.held) c.args.fact o.0) (full s.held.len s.held.places.now o.1), kept (length s.held.places.now) _ (items s.held) _ e.room o.2);
-      order = o.2;
-      places = o.3;
-    }
+    let t = c.put.new.self in
+    let f = c.args.fact in
+    let p = err_from_is_err_and c.from_residual.result c.from_residual.ensures.1 in
+    let told = told_full c.put.result c.in_err-new.ensures.variant in
+    let o = outcome_told fact_eq fact_eq_same s.held t f told.1 c.put.ensures.outcome in
+    let n : c.in_err-new.field-0.0 ≡ NotTaken = search rules in
+    rw (p.1, p.2, n)
+    (not_taken (c.if-not-fits.ensures.0 refl) (absent_not (items s.held) f o.0) (full s.held.len s.held.places.now o.1), kept (length s.held.places.now) _ (items s.held) _ c.put.ensures.room o.2)

@@ -12,7 +12,7 @@ returns c =
     let before = c.args.places.now in
     let after = c.put_onward.new.table.places.now in
     let new = c.new-table.ensures in
-    let start = working_start c.rules.result.now q before _ _ (blank before _ new.empty new.places new.room) c.in_ok-put.ensures.taken in
+    let start = working_start c.rules.result.now q before _ _ (blank before _ new.empty new.places new.room) c.in_ok-put.ensures in
     let done = c.in_ok-put_onward.ensures.worked q before start in
     let all : AllRewritings c.args.book.now.rules.now q before after c.len.result
     = subst (λ (rs : List Rule). AllRewritings rs q before after c.len.result) c.rules.ensures
@@ -27,7 +27,7 @@ returns-in_err-put c =
     let before = c.args.places.now in
     let after = c.put.new.table.places.now in
     let new = c.new-table.ensures in
-    let e = c.in_err-put.ensures.taken in
+    let e = c.in_err-put.ensures in
     let over : Enumerated all q before after c.from_residual.result
     = at_exit all q before after _ _ _ p.1 p.2 e.0 (start_over all q before _ _ (blank before _ new.empty new.places new.room) e.1) in
     search (rules, held all q before after c.from_residual.result)
@@ -40,7 +40,7 @@ returns-in_err-put_onward c =
     let before = c.args.places.now in
     let after = c.put_onward.new.table.places.now in
     let new = c.new-table.ensures in
-    let start = working_start c.rules.result.now q before _ _ (blank before _ new.empty new.places new.room) c.in_ok-put.ensures.taken in
+    let start = working_start c.rules.result.now q before _ _ (blank before _ new.empty new.places new.room) c.in_ok-put.ensures in
     let e = c.in_err-put_onward.ensures.worked q before start in
     let over : Enumerated all q before after c.from_residual-in_err-put_onward.result
     = at_exit all q before after _ _ _ p.1 p.2 e.0 (subst (λ (rs : List Rule). MoreRewritings rs q after) c.rules.ensures e.1) in
