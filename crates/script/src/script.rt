@@ -3,8 +3,8 @@
 //! Drafts, books and stores borrow their tables, so each stands within a function that goes through the lines of a section.
 //! A section ends where a draft is opened or sealed or a store is made; one function serves all sections.
 
-ghost use Rattle.script.specs.Sections.{StopsIn};
-ghost use Rattle.std.specs.Prelude.{◌≡◌, IfOk};
+ghost use Rattle.script.specs.Sections.{GoesTo};
+ghost use Rattle.std.specs.Prelude.{◌≡◌};
 ghost use Rattle.std.specs.Slice.Iter.{iter_rest};
 
 use crate::calls::{Call, Making};
@@ -74,7 +74,8 @@ pub(crate) enum Stop<'a> {
     Store(Stock),
 }
 
-/// A script that is being answered.
+/// A script that is being answered. That a section leaves fewer lines is a relation of the lines before and after, which no
+/// invariant can hold: each function that answers sections promises it.
 #[derive(Drop)]
 struct Session<'a> {
     heap: Global,
@@ -89,7 +90,7 @@ struct Session<'a> {
 impl<'a> Session<'a> {
     /// Opens a draft, and answers the lines for which it or its book stands.
     fn opened(&mut self, opening: Opening) -> Result<Option<Stop<'a>>, AllocError>
-        ensures { IfOk result (StopsIn (iter_rest self.old.lines) (iter_rest self.new.lines)) }
+        ensures { GoesTo self.old self.new result }
     {
         let Opening {
             pass,
@@ -109,7 +110,7 @@ impl<'a> Session<'a> {
 
     /// Answers the lines for which these rules stand, over one store after another.
     fn over<R: Rules>(&mut self, rules: &mut R) -> Result<Option<Stop<'a>>, AllocError>
-        ensures { IfOk result (StopsIn (iter_rest self.old.lines) (iter_rest self.new.lines)) }
+        ensures { GoesTo self.old self.new result }
     {
         let mut stop = self.stocked(rules)?;
         while let Some(Stop::Store(stock)) = stop {
@@ -121,7 +122,7 @@ impl<'a> Session<'a> {
 
     /// Answers the lines of a section over the store that was made last, if one was, which is made anew.
     fn stocked<R: Rules>(&mut self, rules: &mut R) -> Result<Option<Stop<'a>>, AllocError>
-        ensures { IfOk result (StopsIn (iter_rest self.old.lines) (iter_rest self.new.lines)) }
+        ensures { GoesTo self.old self.new result }
     {
         let Some(stock) = self.stock.take() else {
             return self.section(rules, &mut NoStore);
@@ -147,7 +148,7 @@ impl<'a> Session<'a> {
         store: S,
         mut stock: Stock,
     ) -> Result<Option<Stop<'a>>, AllocError>
-        ensures { IfOk result (StopsIn (iter_rest self.old.lines) (iter_rest self.new.lines)) }
+        ensures { GoesTo self.old self.new result }
     {
         let mut held = Held { store };
         stock.restore(&mut held.store);
@@ -163,7 +164,7 @@ impl<'a> Session<'a> {
         rules: &mut R,
         shelf: &mut F,
     ) -> Result<Option<Stop<'a>>, AllocError>
-        ensures { IfOk result (StopsIn (iter_rest self.old.lines) (iter_rest self.new.lines)) }
+        ensures { GoesTo self.old self.new result }
     {
         while let Some(line) = self.lines.next() {
             match self.answer(*line, rules, shelf) {

@@ -34,7 +34,7 @@ impl Shelf for NoStore {
     }
 }
 
-/// A store of any make.
+/// A store of any make, in a type of its own, since `NoStore` could be one too.
 #[derive(Drop)]
 pub(crate) struct Held<S> {
     pub(crate) store: S,
