@@ -22,7 +22,7 @@ fn enter_all(draft: &mut Draft, rules: &[Rule]) -> Result<(), Fault> {
 
 /// Makes a book of family R and asks it for the rewritings, in so many places.
 pub(crate) fn ask(
-    rt: &HostRuntime,
+    rt: &(impl Print + AllocGlobal),
     rules: &[Rule],
     question: Question,
     places: usize,
@@ -40,7 +40,12 @@ pub(crate) fn ask(
 }
 
 /// Prints the count and the rewritings, or the fault and what the table holds then.
-fn answer(rt: &HostRuntime, book: &Book, question: Question, places: usize) -> anyhow::Result<()> {
+fn answer(
+    rt: &(impl Print + AllocGlobal),
+    book: &Book,
+    question: Question,
+    places: usize,
+) -> anyhow::Result<()> {
     let record = match question.test() {
         Ok(record) => record,
         Err(fault) => {
@@ -52,19 +57,19 @@ fn answer(rt: &HostRuntime, book: &Book, question: Question, places: usize) -> a
     match record.rewritings(book, &mut table) {
         Ok(count) => {
             println!(rt; "{count} rewritings in {places} places")?;
-            print_sorted(rt, &table, count)
+            print_sorted(rt, &table[..count])
         }
         Err(fault) => {
             println!(rt; "fault {} with {places} places", u8::from(fault))?;
-            print_sorted(rt, &table, places)
+            print_sorted(rt, &table)
         }
     }
 }
 
-/// Prints the first records as lines, sorted as text.
-fn print_sorted(rt: &HostRuntime, table: &[Record], count: usize) -> anyhow::Result<()> {
+/// Prints records as lines, sorted as text.
+fn print_sorted(rt: &(impl Print + AllocGlobal), records: &[Record]) -> anyhow::Result<()> {
     let mut lines = Vec::new(rt.alloc());
-    for record in table.iter().take(count) {
+    for record in records {
         lines.push(format!(in rt.alloc(); "{}", Shown(record))?)?;
     }
     lines.sort()?;

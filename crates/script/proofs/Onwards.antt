@@ -7,9 +7,6 @@ use Rattle.script.specs.Sections.{Later, StopsIn}
 abbrev pub Onward : {A : Type 0} → List A → List A → Type 0
 Onward before after = (k : ℕ) × (k ≤ length before) × (after ≡ drop k before)
 
-pub start : {A : Type 0} (xs : List A) → Onward xs xs
-start xs = (0, omega arith, refl)
-
 pub onward : {A : Type 0} (xs ys : List A) → Later xs ys → Onward xs ys
 onward xs ys h = (suc h.0, omega (arith, h.1), h.2)
 
@@ -20,12 +17,9 @@ further xs ys zs h l =
     let sum : h.0 + suc l.0 ≡ suc (h.0 + l.0) = omega arith in
     (h.0 + l.0, omega (arith, long, l.1, h.1), l.2 ∙ ap (drop (suc l.0)) h.2 ∙ drop-drop (suc l.0) h.0 xs ∙ ap (λ n. drop n xs) sum)
 
--- one line is answered, and what then remains is kept
+-- one line is answered, and those behind it stay
 pub one : {A : Type 0} (y : A) (xs ys zs after : List A) → Onward xs ys → ys ≡ y ∷ zs → after ≡ zs → Later xs after
 one y xs ys zs after h e kept = further xs ys after h (0, omega (arith, ap length e), kept ∙ sym (ap (drop 1) e))
-
-pub shorter : {A : Type 0} (xs ys : List A) → Later xs ys → length ys < length xs
-shorter xs ys h = omega (arith, ap length h.2 ∙ length-drop (suc h.0) xs, h.1)
 
 -- how many lines may still be answered after a stop
 abbrev pub left : {A S : Type 0} → List A → Option S → ℕ
