@@ -8,23 +8,21 @@ use book::pass::Pass;
 use question::asked::Question;
 use question::record::Record;
 use vocabulary::basic::Directed;
+use vocabulary::faults::Fault;
 use vocabulary::numbers::Link;
 use vocabulary::rules::Rule;
 
-/// Enters the rules, and says whether all of them were taken.
-fn enter_all(draft: &mut Draft, rules: &[Rule]) -> bool {
+/// Enters the rules, until one is refused.
+fn enter_all(draft: &mut Draft, rules: &[Rule]) -> Result<(), Fault> {
     for rule in rules {
-        match draft.enter(*rule) {
-            Ok(_) => {}
-            Err(_) => return false,
-        }
+        draft.enter(*rule)?;
     }
-    true
+    Ok(())
 }
 
 /// Makes a book of family R and asks it for the rewritings, in so many places.
 pub(crate) fn ask(
-    rt: &HostRuntime,
+    rt: &(impl Print + AllocGlobal),
     rules: &[Rule],
     question: Question,
     places: usize,
@@ -36,20 +34,22 @@ pub(crate) fn ask(
         return Err(anyhow!("no draft can be opened"));
     };
     let mut draft = Draft::open(pass, &mut entered, &mut basic, &mut linked);
-    if !enter_all(&mut draft, rules) {
-        return Err(anyhow!("a rule is refused"));
-    }
+    enter_all(&mut draft, rules).map_err(|_| anyhow!("a rule is refused"))?;
     let book = draft.seal();
     answer(rt, &book, question, places)
 }
 
 /// Prints the count and the rewritings, or the fault and what the table holds then.
-fn answer(rt: &HostRuntime, book: &Book, question: Question, places: usize) -> anyhow::Result<()> {
+fn answer(
+    rt: &(impl Print + AllocGlobal),
+    book: &Book,
+    question: Question,
+    places: usize,
+) -> anyhow::Result<()> {
     let record = match question.test() {
         Ok(record) => record,
         Err(fault) => {
-            let n = u8::from(fault);
-            println!(rt; "fault {n}")?;
+            println!(rt; "fault {}", u8::from(fault))?;
             return Ok(());
         }
     };
@@ -57,22 +57,20 @@ fn answer(rt: &HostRuntime, book: &Book, question: Question, places: usize) -> a
     match record.rewritings(book, &mut table) {
         Ok(count) => {
             println!(rt; "{count} rewritings in {places} places")?;
-            print_sorted(rt, &table, count)
+            print_sorted(rt, &table[..count])
         }
         Err(fault) => {
-            let n = u8::from(fault);
-            println!(rt; "fault {n} with {places} places")?;
-            print_sorted(rt, &table, places)
+            println!(rt; "fault {} with {places} places", u8::from(fault))?;
+            print_sorted(rt, &table)
         }
     }
 }
 
-/// Prints the first records as lines, sorted as text.
-fn print_sorted(rt: &HostRuntime, table: &[Record], count: usize) -> anyhow::Result<()> {
+/// Prints records as lines, sorted as text.
+fn print_sorted(rt: &(impl Print + AllocGlobal), records: &[Record]) -> anyhow::Result<()> {
     let mut lines = Vec::new(rt.alloc());
-    for record in table.iter().take(count) {
-        let shown = Shown(record);
-        lines.push(format!(in rt.alloc(); "{shown}")?)?;
+    for record in records {
+        lines.push(format!(in rt.alloc(); "{}", Shown(record))?)?;
     }
     lines.sort()?;
     for line in lines.iter() {

@@ -2,6 +2,7 @@
 
 use question::record::Record;
 use std::fmt;
+use vocabulary::numbers::{Class, Link, Name};
 use vocabulary::questions::{Atom, Term};
 
 /// Written as `?0` for a variable, by its number for a name, and `_` for the open term.
@@ -12,10 +13,7 @@ impl fmt::Display for ShownTerm {
     fn fmt<W: fmt::Write>(&self, f: &mut fmt::Formatter<W>) -> fmt::Result {
         match self.0 {
             Term::Variable(n) => write!(f, "?{n}"),
-            Term::Constant(a) => {
-                let n = a.0;
-                write!(f, "{n}")
-            }
+            Term::Constant(Name(a)) => write!(f, "{a}"),
             Term::Open => f.write_str("_"),
         }
     }
@@ -28,17 +26,8 @@ struct ShownAtom(Atom);
 impl fmt::Display for ShownAtom {
     fn fmt<W: fmt::Write>(&self, f: &mut fmt::Formatter<W>) -> fmt::Result {
         match self.0 {
-            Atom::IsIn(c, t) => {
-                let n = c.0;
-                let t = ShownTerm(t);
-                write!(f, "c{n}({t})")
-            }
-            Atom::Joins(l, t, u) => {
-                let n = l.0;
-                let t = ShownTerm(t);
-                let u = ShownTerm(u);
-                write!(f, "l{n}({t},{u})")
-            }
+            Atom::IsIn(Class(c), t) => write!(f, "c{c}({})", ShownTerm(t)),
+            Atom::Joins(Link(l), t, u) => write!(f, "l{l}({},{})", ShownTerm(t), ShownTerm(u)),
         }
     }
 }
@@ -50,13 +39,11 @@ pub(crate) struct Shown<'a>(pub(crate) &'a Record);
 impl fmt::Display for Shown<'_> {
     fn fmt<W: fmt::Write>(&self, f: &mut fmt::Formatter<W>) -> fmt::Result {
         for t in self.0.head() {
-            let t = ShownTerm(*t);
-            write!(f, "{t} ")?;
+            write!(f, "{} ", ShownTerm(*t))?;
         }
         f.write_str(":")?;
         for a in self.0.atoms() {
-            let a = ShownAtom(*a);
-            write!(f, " {a}")?;
+            write!(f, " {}", ShownAtom(*a))?;
         }
         Ok(())
     }

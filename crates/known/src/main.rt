@@ -9,12 +9,8 @@ mod samples;
 use crate::samples::{lifts, orders, professors, refused};
 
 fn main(rt: HostRuntime) -> anyhow::Result<()> {
-    ask_all(&rt)
-}
-
-fn ask_all(rt: &HostRuntime) -> anyhow::Result<()> {
-    professors(rt)?;
-    lifts(rt)?;
-    orders(rt)?;
-    refused(rt)
+    professors(&rt)?;
+    lifts(&rt)?;
+    orders(&rt)?;
+    refused(&rt)
 }

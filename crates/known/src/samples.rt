@@ -27,7 +27,7 @@ fn linked(l: u8, m: u8, n: u8) -> AskedAtom {
 }
 
 /// Professors (0) teach (link 0), students (1) have a tutor (link 1), who is taught is a student, and a tutor is a professor.
-pub(crate) fn professors(rt: &HostRuntime) -> anyhow::Result<()> {
+pub(crate) fn professors(rt: &(impl Print + AllocGlobal)) -> anyhow::Result<()> {
     println!(rt; "professors and students")?;
     let rules = [
         Rule::Within(class(0), start(0)),
@@ -53,7 +53,7 @@ pub(crate) fn professors(rt: &HostRuntime) -> anyhow::Result<()> {
 }
 
 /// Phones (0) are on a line (link 1, to class 2), and lines are answered (link 2) by a centre (4); link 3 is the main line.
-pub(crate) fn lifts(rt: &HostRuntime) -> anyhow::Result<()> {
+pub(crate) fn lifts(rt: &(impl Print + AllocGlobal)) -> anyhow::Result<()> {
     println!(rt; "lift phones")?;
     let rules = [
         Rule::Within(class(0), start(1)),
@@ -91,7 +91,7 @@ pub(crate) fn lifts(rt: &HostRuntime) -> anyhow::Result<()> {
 }
 
 /// The order of the atoms counts.
-pub(crate) fn orders(rt: &HostRuntime) -> anyhow::Result<()> {
+pub(crate) fn orders(rt: &(impl Print + AllocGlobal)) -> anyhow::Result<()> {
     println!(rt; "orders")?;
     let rules = [
         Rule::Within(class(2), class(0)),
@@ -107,7 +107,7 @@ pub(crate) fn orders(rt: &HostRuntime) -> anyhow::Result<()> {
 }
 
 /// Questions that are refused, each for the smallest of its faults.
-pub(crate) fn refused(rt: &HostRuntime) -> anyhow::Result<()> {
+pub(crate) fn refused(rt: &(impl Print + AllocGlobal)) -> anyhow::Result<()> {
     println!(rt; "refused")?;
     let five = [3, 3, 3, 3, 3];
     let three = [3];
@@ -126,6 +126,10 @@ pub(crate) fn refused(rt: &HostRuntime) -> anyhow::Result<()> {
     refuse(rt, &three, &[linked(31, 11, 0)])
 }
 
-fn refuse<'a>(rt: &HostRuntime, head: &'a [u8], atoms: &'a [AskedAtom]) -> anyhow::Result<()> {
+fn refuse<'a>(
+    rt: &(impl Print + AllocGlobal),
+    head: &'a [u8],
+    atoms: &'a [AskedAtom],
+) -> anyhow::Result<()> {
     ask(rt, &[], Question { head, atoms }, 8)
 }

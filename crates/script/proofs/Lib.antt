@@ -1,1 +1,3 @@
+pub mod Onwards
 pub mod Reading
+pub mod Taken

@@ -1,3 +1,6 @@
 pub mod Forms
+pub mod Makings
 pub mod Numbers
+pub mod Offers
 pub mod Rules
+pub mod Sections

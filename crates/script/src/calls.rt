@@ -1,10 +1,13 @@
 //! The calls of a script, read from the words of a line.
 
+ghost use Rattle.script.specs.Offers.{Offered};
 ghost use Rattle.script.specs.Rules.{RuleOf};
+ghost use Rattle.std.specs.Prelude.{IfOk};
 
 use crate::expected::Expected;
-use crate::notation;
-use crate::words::{Words, code};
+use crate::notation::fact;
+use crate::offer::Offer;
+use crate::words::{Words, code, size};
 use vocabulary::basic::{Basic, Directed};
 use vocabulary::facts::Fact;
 use vocabulary::faults::Fault;
@@ -32,19 +35,21 @@ pub(crate) enum Call {
 }
 
 impl Call {
-    /// The call that a line writes.
-    pub(crate) fn read(line: &str) -> Result<Call, Expected> {
+    /// The call that a line writes, of those on offer.
+    pub(crate) fn read(line: &str, offer: Offer) -> Result<Call, Expected>
+        ensures { IfOk result (Offered offer) }
+    {
         let mut words = Words::new(line);
-        let call = match words.next() {
-            Some("family") => Call::Family(words.code(Expected::FamilyCode)?),
-            Some("rule") => Call::Rule(Written::read(&mut words)?),
-            Some("seal") => Call::Seal,
-            Some("follows") => Call::Follows(Written::read(&mut words)?),
-            Some("store") => Call::Store(Making::read(&mut words)?),
-            Some("enter") => Call::Enter(notation::read(&mut words)?),
-            Some("withdraw") => Call::Withdraw(notation::read(&mut words)?),
-            Some("list") => Call::List,
-            _ => return Err(Expected::Call),
+        let call = match (words.next(), offer) {
+            (Some("family"), _) => Call::Family(words.read(code, Expected::FamilyCode)?),
+            (Some("rule"), _) => Call::Rule(Written::read(&mut words)?),
+            (Some("seal"), _) => Call::Seal,
+            (Some("follows"), _) => Call::Follows(Written::read(&mut words)?),
+            (Some("store"), Offer::Facts) => Call::Store(Making::read(&mut words)?),
+            (Some("enter"), Offer::Facts) => Call::Enter(words.read(fact, Expected::Fact)?),
+            (Some("withdraw"), Offer::Facts) => Call::Withdraw(words.read(fact, Expected::Fact)?),
+            (Some("list"), Offer::Facts) => Call::List,
+            _ => return Err(Expected::Call(offer)),
         };
         words.end()?;
         Ok(call)
@@ -63,8 +68,8 @@ pub(crate) enum Making {
 impl Making {
     fn read(words: &mut Words) -> Result<Making, Expected> {
         match words.next() {
-            Some("list") => Ok(Making::List(words.size(Expected::StoreSize)?)),
-            Some("bits") => Ok(Making::Bits(words.size(Expected::StoreSize)?)),
+            Some("list") => Ok(Making::List(words.read(size, Expected::StoreSize)?)),
+            Some("bits") => Ok(Making::Bits(words.read(size, Expected::StoreSize)?)),
             _ => Err(Expected::StoreMake),
         }
     }
@@ -72,7 +77,7 @@ impl Making {
 
 /// A rule by the codes that stand in it.
 #[derive(Clone, Copy)]
-pub(crate) enum Written {
+pub enum Written {
     Within(u8, u8),
     Apart(u8, u8),
     LinkWithin(u8, u8),
@@ -84,7 +89,7 @@ impl Written {
     fn read(words: &mut Words) -> Result<Written, Expected> {
         match words.next() {
             Some("link") => {
-                let link = words.code(Expected::LinkCode)?;
+                let link = words.read(code, Expected::LinkCode)?;
                 Written::on_links(link, words)
             }
             Some(word) => {
@@ -97,26 +102,33 @@ impl Written {
 
     fn on_classes(first: u8, words: &mut Words) -> Result<Written, Expected> {
         match words.next() {
-            Some("within") => Ok(Written::Within(first, words.code(Expected::SecondCode)?)),
-            Some("apart") => Ok(Written::Apart(first, words.code(Expected::SecondCode)?)),
+            Some("within") => Ok(Written::Within(first, words.read(code, Expected::SecondCode)?)),
+            Some("apart") => Ok(Written::Apart(first, words.read(code, Expected::SecondCode)?)),
             _ => Err(Expected::ClassRelation),
         }
     }
 
     fn on_links(first: u8, words: &mut Words) -> Result<Written, Expected> {
         match words.next() {
-            Some("within") => Ok(Written::LinkWithin(first, words.code(Expected::SecondCode)?)),
-            Some("apart") => Ok(Written::LinkApart(first, words.code(Expected::SecondCode)?)),
+            Some("within") => Ok(Written::LinkWithin(
+                first,
+                words.read(code, Expected::SecondCode)?,
+            )),
+            Some("apart") => Ok(Written::LinkApart(first, words.read(code, Expected::SecondCode)?)),
             Some("single") => Ok(Written::Single(first)),
             _ => Err(Expected::LinkRelation),
         }
     }
+}
 
-    /// The rule with these codes, or the range fault.
-    pub(crate) fn rule(self) -> Result<Rule, Fault>
-        ensures { RuleOf self result }
-    {
-        Ok(match self {
+/// The rule with these codes, or the range fault.
+impl TryFrom<Written> for Rule {
+    type Error = Fault;
+
+    ghost try_from_gives = { RuleOf };
+
+    fn try_from(written: Written) -> Result<Rule, Fault> {
+        Ok(match written {
             Written::Within(a, b) => Rule::Within(Basic::try_from(a)?, Basic::try_from(b)?),
             Written::Apart(a, b) => Rule::Apart(Basic::try_from(a)?, Basic::try_from(b)?),
             Written::LinkWithin(a, b) => Rule::LinkWithin(

@@ -7,36 +7,43 @@ use crate::report::{Line, Report};
 use book::book::Book;
 use std::alloc::AllocError;
 use vocabulary::basic::{Basic, Coded, Directed};
+use vocabulary::faults::Fault;
 
 /// Answers the call that sealed a book: the pairs of basic classes, and then those of links.
 pub(crate) fn answer(line: Line, book: Book, report: &mut Report) -> Result<(), AllocError> {
     let call = line.call;
     write!(report.text, "{call} => closure")?;
-    classes(&book, &mut report.text)?;
-    links(&book, &mut report.text)?;
+    pairs(
+        "",
+        |b: Basic, c: Basic| book.classes_apart(b, c),
+        &mut report.text,
+    )?;
+    pairs(
+        "l",
+        |d: Directed, e: Directed| is_least(d, e) && book.links_apart(d, e),
+        &mut report.text,
+    )?;
     report.text.push('\n')
 }
 
-fn classes(book: &Book, out: &mut String) -> Result<(), AllocError> {
-    for a in 0..128u8 {
-        for b in a..128u8 {
-            if let (Ok(first), Ok(second)) = (Basic::try_from(a), Basic::try_from(b)) {
-                if book.classes_apart(first, second) {
-                    write!(out, " {a}-{b}")?;
-                }
-            }
-        }
-    }
-    Ok(())
-}
-
-fn links(book: &Book, out: &mut String) -> Result<(), AllocError> {
-    for a in 0..64u8 {
-        for b in a..64u8 {
-            if let (Ok(first), Ok(second)) = (Directed::try_from(a), Directed::try_from(b)) {
-                if is_least(first, second) && book.links_apart(first, second) {
-                    write!(out, " l{a}-{b}")?;
-                }
+/// Writes the pairs that are kept apart by their codes, which go up from 0: the smaller first, each behind a blank and a sign.
+fn pairs<T: Coded + TryFrom<u8, Error = Fault>, F: Fn(T, T) -> bool>(
+    sign: &str,
+    apart: F,
+    out: &mut String,
+) -> Result<(), AllocError>
+    requires { F.IsAlwaysCallable apart }
+{
+    for a in 0..=255u8 {
+        let Ok(first) = T::try_from(a) else {
+            break;
+        };
+        for b in a..=255u8 {
+            let Ok(second) = T::try_from(b) else {
+                break;
+            };
+            if apart(first, second) {
+                write!(out, " {sign}{a}-{b}")?;
             }
         }
     }
@@ -56,5 +63,5 @@ fn is_least(d: Directed, e: Directed) -> bool
 fn not_after(a: usize, b: usize, c: usize, d: usize) -> bool
     ensures { Decides result (NotAfter a b c d) }
 {
-    a < c || a == c && b <= d
+    (a, b) <= (c, d)
 }

@@ -1,12 +1,13 @@
 //! What a line should have had.
 
+use crate::offer::Offer;
 use std::fmt;
 
 /// What was expected where a line cannot be read, or its call is not possible yet.
 #[derive(Clone, Copy)]
 pub(crate) enum Expected {
-    /// The first word names no call.
-    Call,
+    /// The first word names no call of those on offer.
+    Call(Offer),
     /// `family` has no number.
     FamilyCode,
     /// A rule begins with neither a code nor `link`.
@@ -42,7 +43,8 @@ pub(crate) enum Expected {
 impl Expected {
     fn text(self) -> &'static str {
         match self {
-            Expected::Call =>
+            Expected::Call(Offer::Rules) => "expected `family`, `rule`, `seal` or `follows`",
+            Expected::Call(Offer::Facts) =>
                 "expected `family`, `rule`, `seal`, `follows`, `store`, `enter`, `withdraw` or `list`",
             Expected::FamilyCode => "expected a number after `family`",
             Expected::RuleStart => "expected a code or `link` at the start of the rule",

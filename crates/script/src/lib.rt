@@ -2,10 +2,13 @@
 
 #![tactic(auto)]
 
-mod calls;
+pub mod calls;
 mod closure;
 mod expected;
 mod notation;
+pub mod offer;
+mod opening;
+pub mod program;
 pub mod report;
 mod rules;
 pub mod script;

@@ -1,20 +1,12 @@
 //! Facts as scripts write them: `c5(7)` puts name 7 into class 5, `l1(7,8)` leads link 1 from name 7 to name 8.
 
-use crate::expected::Expected;
-use crate::words::{Words, code, number};
-use std::alloc::AllocError;
+use crate::words::{code, number};
+use std::fmt;
 use vocabulary::facts::Fact;
 use vocabulary::numbers::{Class, Link, Name};
 
-/// The fact that comes next.
-pub(crate) fn read(words: &mut Words) -> Result<Fact, Expected> {
-    match words.next() {
-        Some(word) => fact(word).ok_or(Expected::Fact),
-        None => Err(Expected::Fact),
-    }
-}
-
-fn fact(word: &str) -> Option<Fact> {
+/// The fact that a word writes.
+pub(crate) fn fact(word: &str) -> Option<Fact> {
     let (set, names) = word.strip_suffix(')')?.split_once('(')?;
     if let Some(class) = set.strip_prefix('c') {
         return Some(Fact::InClass(Class(code(class)?), name(names)?));
@@ -29,10 +21,15 @@ fn name(word: &str) -> Option<Name> {
     Some(Name(number(word)?.min(65535) as u16))
 }
 
-/// Writes a fact behind a blank.
-pub(crate) fn write(fact: Fact, out: &mut String) -> Result<(), AllocError> {
-    match fact {
-        Fact::InClass(Class(c), Name(a)) => write!(out, " c{c}({a})"),
-        Fact::Linked(Link(l), Name(a), Name(b)) => write!(out, " l{l}({a},{b})"),
+/// A fact to be written.
+#[derive(Clone, Copy)]
+pub(crate) struct Shown(pub(crate) Fact);
+
+impl fmt::Display for Shown {
+    fn fmt<W: fmt::Write>(&self, f: &mut fmt::Formatter<W>) -> fmt::Result {
+        match self.0 {
+            Fact::InClass(Class(c), Name(a)) => write!(f, "c{c}({a})"),
+            Fact::Linked(Link(l), Name(a), Name(b)) => write!(f, "l{l}({a},{b})"),
+        }
     }
 }

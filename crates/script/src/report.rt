@@ -1,9 +1,14 @@
 //! What is printed: a line for each call, with its answer.
 
+ghost use Rattle.script.specs.declared.report.Refusal.TheVariants as refused;
+ghost use Rattle.std.specs.Prelude.{◌≡◌};
+
 use crate::expected::Expected;
+use crate::notation::Shown;
 use std::alloc::{AllocError, Global};
 use std::fmt;
 use vocabulary::effects::Effect;
+use vocabulary::facts::Fact;
 use vocabulary::faults::Fault;
 
 /// A line of a script that holds a call.
@@ -16,39 +21,64 @@ pub(crate) struct Line<'a> {
 }
 
 /// What a call answers.
-#[derive(Clone, Copy)]
+#[derive(Drop)]
 pub(crate) enum Answer {
     Done,
     Changed(Effect),
     Follows(bool),
-    Refused(Fault),
-}
-
-impl Answer {
-    /// What an entry or a withdrawal answers.
-    pub(crate) fn of(res: Result<Effect, Fault>) -> Answer {
-        match res {
-            Ok(effect) => Answer::Changed(effect),
-            Err(fault) => Answer::Refused(fault),
-        }
-    }
+    Facts(Vec<Fact>),
 }
 
 impl fmt::Display for Answer {
     fn fmt<W: fmt::Write>(&self, f: &mut fmt::Formatter<W>) -> fmt::Result {
-        match *self {
+        match self {
             Answer::Done => f.write_str("ok"),
-            Answer::Changed(effect) => {
-                let n = u8::from(effect);
-                write!(f, "{n}")
-            }
+            Answer::Changed(effect) => write!(f, "{}", u8::from(*effect)),
             Answer::Follows(true) => f.write_str("yes"),
             Answer::Follows(false) => f.write_str("no"),
-            Answer::Refused(fault) => {
-                let n = u8::from(fault);
-                write!(f, "fault {n}")
+            Answer::Facts(facts) => {
+                f.write_str("facts")?;
+                for fact in facts {
+                    write!(f, " {}", Shown(*fact))?;
+                }
+                Ok(())
             }
         }
+    }
+}
+
+/// Why a call has no answer.
+#[derive(Drop)]
+pub(crate) enum Refusal {
+    /// The book or the store refuses it.
+    Fault(Fault),
+    /// The line lacks this, or the call is not possible yet.
+    Expected(Expected),
+    /// There is no memory for it.
+    Memory(AllocError),
+}
+
+impl From<Fault> for Refusal {
+    ghost from_gives = { λ fault refusal. refusal ≡ refused.Fault fault };
+
+    fn from(fault: Fault) -> Refusal {
+        Refusal::Fault(fault)
+    }
+}
+
+impl From<Expected> for Refusal {
+    ghost from_gives = { λ expected refusal. refusal ≡ refused.Expected expected };
+
+    fn from(expected: Expected) -> Refusal {
+        Refusal::Expected(expected)
+    }
+}
+
+impl From<AllocError> for Refusal {
+    ghost from_gives = { λ error refusal. refusal ≡ refused.Memory error };
+
+    fn from(error: AllocError) -> Refusal {
+        Refusal::Memory(error)
     }
 }
 
@@ -61,43 +91,28 @@ pub struct Report {
 }
 
 impl Report {
-    pub fn new(heap: Global) -> Report {
+    pub(crate) fn new(heap: Global) -> Report {
         Report {
             text: String::new(heap),
             failed: false,
         }
     }
 
-    pub(crate) fn answer(&mut self, line: Line, answer: Answer) -> Result<(), AllocError> {
-        let call = line.call;
-        writeln!(self.text, "{call} => {answer}")
+    /// Writes the answer to a line.
+    pub(crate) fn answer(&mut self, line: Line, answer: &Answer) -> Result<(), AllocError> {
+        writeln!(self.text, "{} => {answer}", line.call)
     }
 
-    /// Answers a call that makes something, and says whether it was not refused.
-    pub(crate) fn made(&mut self, line: Line, refused: Option<Fault>) -> Result<bool, AllocError> {
-        match refused {
-            Some(fault) => self.answer(line, Answer::Refused(fault))?,
-            None => self.answer(line, Answer::Done)?,
-        }
-        Ok(refused.is_none())
-    }
-
-    /// Tells the answer to a call, or what was expected in its place.
-    pub(crate) fn told(
-        &mut self,
-        line: Line,
-        answer: Result<Answer, Expected>,
-    ) -> Result<(), AllocError> {
-        match answer {
-            Ok(answer) => self.answer(line, answer),
-            Err(expected) => self.error(line, expected),
-        }
-    }
-
-    /// Says what was expected in a line.
-    pub(crate) fn error(&mut self, line: Line, expected: Expected) -> Result<(), AllocError> {
+    /// Writes why a line has no answer, unless memory ran out.
+    pub(crate) fn refuse(&mut self, line: Line, refusal: Refusal) -> Result<(), AllocError> {
         let Line { number, call } = line;
-        self.failed = true;
-        writeln!(self.text, "{call} => error: line {number}: {expected}")
+        match refusal {
+            Refusal::Fault(fault) => writeln!(self.text, "{call} => fault {}", u8::from(fault)),
+            Refusal::Expected(expected) => {
+                self.failed = true;
+                writeln!(self.text, "{call} => error: line {number}: {expected}")
+            }
+            Refusal::Memory(error) => Err(error),
+        }
     }
 }

@@ -2,15 +2,16 @@
 
 use crate::calls::Written;
 use crate::expected::Expected;
-use crate::report::Answer;
+use crate::report::{Answer, Refusal};
 use book::book::Book;
 use book::draft::Draft;
+use vocabulary::rules::Rule;
 
 /// What answers the calls on rules; a call that is not possible says what was expected first.
 pub(crate) trait Rules {
-    fn enter(&mut self, rule: Written) -> Result<Answer, Expected>;
+    fn enter(&mut self, rule: Written) -> Result<Answer, Refusal>;
 
-    fn follows(&self, rule: Written) -> Result<Answer, Expected>;
+    fn follows(&self, rule: Written) -> Result<Answer, Refusal>;
 
     /// Whether there is a draft to seal.
     fn can_seal(&self) -> Result<(), Expected>;
@@ -21,12 +22,12 @@ pub(crate) trait Rules {
 pub(crate) struct NoDraft;
 
 impl Rules for NoDraft {
-    fn enter(&mut self, _rule: Written) -> Result<Answer, Expected> {
-        Err(Expected::Opening)
+    fn enter(&mut self, _rule: Written) -> Result<Answer, Refusal> {
+        Err(Refusal::Expected(Expected::Opening))
     }
 
-    fn follows(&self, _rule: Written) -> Result<Answer, Expected> {
-        Err(Expected::Opening)
+    fn follows(&self, _rule: Written) -> Result<Answer, Refusal> {
+        Err(Refusal::Expected(Expected::Opening))
     }
 
     fn can_seal(&self) -> Result<(), Expected> {
@@ -35,15 +36,13 @@ impl Rules for NoDraft {
 }
 
 impl Rules for Draft<'_> {
-    fn enter(&mut self, rule: Written) -> Result<Answer, Expected> {
-        Ok(match rule.rule() {
-            Ok(rule) => Answer::of(self.enter(rule)),
-            Err(fault) => Answer::Refused(fault),
-        })
+    fn enter(&mut self, rule: Written) -> Result<Answer, Refusal> {
+        let rule = Rule::try_from(rule)?;
+        Ok(Answer::Changed(self.enter(rule)?))
     }
 
-    fn follows(&self, _rule: Written) -> Result<Answer, Expected> {
-        Err(Expected::Sealing)
+    fn follows(&self, _rule: Written) -> Result<Answer, Refusal> {
+        Err(Refusal::Expected(Expected::Sealing))
     }
 
     fn can_seal(&self) -> Result<(), Expected> {
@@ -52,19 +51,13 @@ impl Rules for Draft<'_> {
 }
 
 impl Rules for Book<'_> {
-    fn enter(&mut self, _rule: Written) -> Result<Answer, Expected> {
-        Err(Expected::OpeningForRule)
+    fn enter(&mut self, _rule: Written) -> Result<Answer, Refusal> {
+        Err(Refusal::Expected(Expected::OpeningForRule))
     }
 
-    fn follows(&self, rule: Written) -> Result<Answer, Expected> {
-        let rule = match rule.rule() {
-            Ok(rule) => rule,
-            Err(fault) => return Ok(Answer::Refused(fault)),
-        };
-        Ok(match self.follows(rule) {
-            Ok(yes) => Answer::Follows(yes),
-            Err(fault) => Answer::Refused(fault),
-        })
+    fn follows(&self, rule: Written) -> Result<Answer, Refusal> {
+        let rule = Rule::try_from(rule)?;
+        Ok(Answer::Follows(self.follows(rule)?))
     }
 
     fn can_seal(&self) -> Result<(), Expected> {

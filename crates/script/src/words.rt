@@ -23,23 +23,15 @@ impl<'a> Words<'a> {
         self.rest.next()
     }
 
-    /// The code that comes next.
-    pub(crate) fn code(&mut self, expected: Expected) -> Result<u8, Expected> {
-        match self.next() {
-            Some(word) => code(word).ok_or(expected),
-            None => Err(expected),
-        }
-    }
-
-    /// The size that comes next.
-    pub(crate) fn size(&mut self, expected: Expected) -> Result<usize, Expected> {
-        match self.next() {
-            Some(word) => match number(word) {
-                Some(n) => Ok(n as usize),
-                None => Err(expected),
-            },
-            None => Err(expected),
-        }
+    /// What the next word is read as, or what was expected in its place.
+    pub(crate) fn read<T, F: FnOnce(&'a str) -> Option<T>>(
+        &mut self,
+        read: F,
+        expected: Expected,
+    ) -> Result<T, Expected>
+        requires { F.IsAlwaysCallable read }
+    {
+        self.next().and_then(read).ok_or(expected)
     }
 
     /// Refuses words that no call takes.
@@ -57,6 +49,13 @@ pub(crate) fn code(word: &str) -> Option<u8>
 {
     let n = number(word)?;
     Some(n.min(255) as u8)
+}
+
+/// The size that a word writes.
+pub(crate) fn size(word: &str) -> Option<usize>
+    ensures { Reads (2 ^ 64 - 1) word.now result }
+{
+    Some(number(word)? as usize)
 }
 
 /// The number that a word writes in decimal, or the largest of the type where that is smaller.

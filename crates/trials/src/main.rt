@@ -3,7 +3,7 @@
 
 #![tactic(auto)]
 
-use script::report::Report;
+use script::offer::Offer;
 use script::script::run;
 use std::alloc::{AllocError, Global};
 
@@ -21,21 +21,14 @@ fn main(rt: HostRuntime) -> anyhow::Result<()> {
          follows 0 apart 2\nseal\nfamily 1\nseal\n",
         "store list 128\nenter c5(7)\nenter c5\nstore bits\nfamily 0\nlist\nseal\nseal\nlist\n",
     ] {
-        let report = answers(heap, text)?;
+        let report = run(heap, text, Offer::Facts)?;
         rt.print(report.text.as_str())?;
-        let failed = report.failed;
-        println!(rt; "failed: {failed}\n")?;
+        println!(rt; "failed: {}\n", report.failed)?;
     }
     for store in ["store list 4096", "store bits 64", "store bits 120"] {
         rt.print(crowd(heap, store)?.as_str())?;
     }
     Ok(())
-}
-
-fn answers(heap: Global, text: &str) -> Result<Report, AllocError> {
-    let mut report = Report::new(heap);
-    run(heap, text, &mut report)?;
-    Ok(report)
 }
 
 /// Fills a store with 4,096 facts and goes on: how many entries were taken, and the answers to the lines after them.
@@ -50,16 +43,13 @@ fn crowd(heap: Global, store: &str) -> Result<String, AllocError> {
         "\nenter l1(0,0)\nenter c0(0)\nenter l0(63,63)\nenter l0(64,1024)\nwithdraw l1(0,0)\n\
          withdraw l0(0,1)\nenter l1(0,0)\nenter l0(0,1)\nwithdraw l1(0,0)\nenter l0(0,1)\n",
     )?;
-    let report = answers(heap, text.as_str())?;
+    let report = run(heap, text.as_str(), Offer::Facts)?;
     let mut told = String::from_str(heap, store)?;
-    let mut taken = 0usize;
-    for (i, line) in report.text.lines().enumerate() {
-        if i > 4096 {
-            write!(told, "\n  {line}")?;
-        } else if line.ends_with("=> 1") {
-            taken = taken.saturating_add(1);
-        }
+    for line in report.text.lines().skip(4097) {
+        write!(told, "\n  {line}")?;
     }
+    let entries = report.text.lines().take(4097);
+    let taken = entries.filter(|line| line.ends_with("=> 1")).count();
     write!(told, "\n  taken before: {taken}\n")?;
     Ok(told)
 }

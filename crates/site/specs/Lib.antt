@@ -1,4 +1,0 @@
-pub mod Forms
-pub mod Numbers
-pub mod Rules
-pub mod Sections
