@@ -27,6 +27,7 @@ pub(crate) fn ask(
     question: Question,
     places: usize,
 ) -> anyhow::Result<()> {
+    // A book holds no tables of its own: they are lent to it.
     let mut entered = [Rule::Single(Directed::Forward(Link(0))); 256];
     let mut basic = [0; 256];
     let mut linked = [0; 64];
