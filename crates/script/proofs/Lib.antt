@@ -1,3 +1,2 @@
 pub mod Onwards
 pub mod Reading
-pub mod Taken

@@ -18,7 +18,7 @@ pub(crate) fn fact(word: &str) -> Option<Fact> {
 
 /// The name that a word writes. One past 65,535 answers that, which is out of range too.
 fn name(word: &str) -> Option<Name> {
-    Some(Name(number(word)?.min(65535) as u16))
+    Some(Name(u16::try_from(number(word)?).unwrap_or(u16::MAX)))
 }
 
 /// A fact to be written.

@@ -43,17 +43,14 @@ pub fn run(heap: Global, text: &str, offer: Offer) -> Result<Report, AllocError>
 
 /// The lines that hold a call.
 fn calls_in<'a>(heap: Global, text: &'a str) -> Result<Vec<Line<'a>>, AllocError> {
-    let mut lines = Vec::new(heap);
-    for (i, line) in text.lines().enumerate() {
-        let call = without_comment(line).trim();
-        if !call.is_empty() {
-            lines.push(Line {
-                number: i + 1,
-                call,
-            })?;
-        }
-    }
-    Ok(lines)
+    text.lines()
+        .enumerate()
+        .map(|(i, line)| Line {
+            number: i + 1,
+            call: without_comment(line).trim(),
+        })
+        .filter(|line| !line.call.is_empty())
+        .collect(heap)
 }
 
 fn without_comment(line: &str) -> &str {

@@ -6,6 +6,7 @@ ghost use Rattle.std.specs.Prelude.{◌≡◌, IfOk, vec_len};
 use crate::calls::Making;
 use crate::report::Refusal;
 use bitstore::pass::BitPass;
+use facts::each::Facts;
 use facts::pass::ListPass;
 use facts::source::{Source, Store};
 use std::alloc::{AllocError, Global};
@@ -54,13 +55,7 @@ fn try_out(heap: Global, making: Making) -> Result<(), Refusal>
 pub(crate) fn listed<S: Source>(heap: Global, store: &S) -> Result<Vec<Fact>, AllocError>
     ensures { IfOk result (λ list. list.items ≡ S.facts store.now) }
 {
-    let mut facts = Vec::new(heap);
-    for place in 0..store.count() {
-        if let Some(fact) = store.at(place) {
-            facts.push(fact)?;
-        }
-    }
-    Ok(facts)
+    Facts::of(store).collect(heap)
 }
 
 /// A table of so many places, or of one more than any store may have where that is less.

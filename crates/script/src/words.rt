@@ -47,8 +47,7 @@ impl<'a> Words<'a> {
 pub(crate) fn code(word: &str) -> Option<u8>
     ensures { Reads 255 word.now result }
 {
-    let n = number(word)?;
-    Some(n.min(255) as u8)
+    Some(u8::try_from(number(word)?).unwrap_or(u8::MAX))
 }
 
 /// The size that a word writes.
@@ -70,7 +69,7 @@ pub(crate) fn number(word: &str) -> Option<u64>
         if !b.is_ascii_digit() {
             return None;
         }
-        n = n.saturating_mul(10).saturating_add((b - b'0') as u64);
+        n = n.saturating_mul(10).saturating_add(u64::from(b - b'0'));
     }
     Some(n)
 }
