@@ -1,6 +1,11 @@
 -- The rules of a draft: that they fit and are lawful, and how many there are.
-use Rattle.std.proofs.Common.{◌≡◌, ℕ, ◌<◌, ◌≢◌, List, [], ◌∷◌, length, get_or, take, drop, ap, inl, inr, arith, length-drop, length-take}
-use Rattle.book.specs.Entries.{Admitted}
+use Rattle.std.proofs.Common.{◌≡◌, ℕ, ◌<◌, ◌≢◌, Bool, true, false, List, [], ◌∷◌, length, get_or, take, drop, Ok, ap, inl, inr, arith, length-drop, length-take}
+use Rattle.book.specs.Entries.{Admitted, Entered, left_free}
+use Rattle.distinct.proofs.Sameness.{Same, absent_not, present_member}
+use Rattle.distinct.specs.Items.{items, spare}
+use Rattle.distinct.specs.Puts.{Outcome}
+use Rattle.distinct.specs.declared.Distinct.{Distinct}
+use Rattle.vocabulary.specs.Effects.{effect_of}
 use Rattle.book.specs.Growth.{AllFit}
 use Rattle.std.proofs.lemmas.List.{drop_all}
 use Rattle.std.proofs.lemmas.Bool.{cases_lt}
@@ -64,3 +69,9 @@ all_taken family (r ∷ rules) h = (h.0.taken, all_taken family rules h.1)
 
 pub all_lawful : (family : Family) (rules : List Rule) → ∥ AllByRecursion (Admitted family) rules ∥₁ → Lawful rules
 all_lawful family rules h d e m s = ∥∥₁_elim h ⊥_prop (λ all. lawful family rules (all_taken family rules all) d e m s)
+
+-- what an entry says of a rule that was put, or stood
+pub entered_put : (family : Family) (s t : Distinct Rule) (rule : Rule) (new : Bool) → Admitted family rule → length s.places.now ≡ 256 → Outcome Same s rule t (Ok new) →
+    Entered family (items s) rule (items t) (Ok (effect_of new)) × (spare t ≡ left_free (Ok (effect_of new)) (spare s))
+entered_put family s t rule true fine sized o = ((fine, absent_not (items s) rule o.0, room_left s.len s.places.now sized o.1, o.2), o.3)
+entered_put family s t rule false fine sized o = ((fine, present_member (items s) rule o.0, o.1), o.2)

@@ -66,11 +66,7 @@ impl<'a> Draft<'a> {
             return Err(Fault::Form);
         }
         let new = self.rules.put(rule).map_err(|_| Fault::BookFull)?;
-        Ok(if new {
-            Effect::Changed
-        } else {
-            Effect::Unchanged
-        })
+        Ok(Effect::from(new))
     }
 
     /// The sealed book: the draft is used up, and its rules stay as they are.

@@ -2,3 +2,4 @@ pub mod Listing
 pub mod Nth
 pub mod Places
 pub mod Rounds
+pub mod Told

@@ -58,12 +58,7 @@ impl Source for ListStore<'_> {
     }
 
     fn at(&self, place: usize) -> Option<Fact> {
-        let facts = self.held.items();
-        if place < facts.len() {
-            Some(facts[place])
-        } else {
-            None
-        }
+        self.held.items().get(place).copied()
     }
 }
 
@@ -81,11 +76,7 @@ impl Store for ListStore<'_> {
             return Err(Fault::Range);
         }
         let new = self.held.put(fact).map_err(|_| Fault::NotTaken)?;
-        Ok(if new {
-            Effect::Changed
-        } else {
-            Effect::Unchanged
-        })
+        Ok(Effect::from(new))
     }
 
     fn withdraw(&mut self, fact: Fact) -> Result<Effect, Fault>
@@ -96,10 +87,6 @@ impl Store for ListStore<'_> {
         if !fact.fits() {
             return Err(Fault::Range);
         }
-        if self.held.remove(&fact) {
-            Ok(Effect::Changed)
-        } else {
-            Ok(Effect::Unchanged)
-        }
+        Ok(Effect::from(self.held.remove(&fact)))
     }
 }

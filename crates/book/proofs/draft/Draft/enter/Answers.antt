@@ -1,8 +1,8 @@
-use Rattle.book.proofs.Listing.{full_length, room_left}
+use Rattle.book.proofs.Listing.{entered_put, full_length}
 use Rattle.distinct.proofs.Decided.{kept_same, outcome_same, outcome_told}
 use Rattle.distinct.proofs.Told.{told_full, told_ok}
 use Rattle.vocabulary.specs.Equality.{rule_eq, rule_eq_same}
-use Rattle.distinct.proofs.Sameness.{Same, absent_not, all_put, different_repeats, present_member, repeats_different}
+use Rattle.distinct.proofs.Sameness.{Same, absent_not, all_put, different_repeats, repeats_different}
 use Rattle.book.proofs.draft.Draft.enter.Goals as goal
 use Rattle.book.specs.Entries.{Admitted, book_full, not_of_family, out_of_range}
 use Rattle.distinct.specs.Items.{items}
@@ -10,7 +10,7 @@ use Rattle.std.proofs.lemmas.Bool.{false≢true}
 use Rattle.std.proofs.lemmas.Result.{err_from_is_err_and}
 use Rattle.vocabulary.specs.declared.faults.Fault.TheVariants.{BookFull}
 use mathlib.Core.Logic.{∥∥₁_map}
-use Rattle.std.proofs.Common.{◌≡◌, true, false, Ok, ap, refl, ◌∙◌, rules}
+use Rattle.std.proofs.Common.{◌≡◌, refl, ◌∙◌, rules}
 
 pub returns-then-not-fits : goal.returns-then-not-fits
 returns-then-not-fits c = record {
@@ -40,31 +40,14 @@ invariant_of-self c =
       different = ∥∥₁_map s.different (λ h. repeats_different (items t) (kept_same rule_eq rule_eq_same (items s.rules) (items t) e.distinct (different_repeats (items s.rules) h)));
     }
 
-pub returns-then-new : goal.returns-then-new
-returns-then-new c =
+pub returns : goal.returns
+returns c =
     let s = c.args.self.now in
     let fine : Admitted s.family c.args.rule = record { fits = c.if-not-fits.ensures.0 refl; taken = c.if-not-takes.ensures.0 refl } in
-    let told : c.put.result ≡ Ok true = told_ok _ _ c.put.result c.in_ok-new.new c.in_ok-new.ensures.cases c.in_ok-new.ensures.variant ∙ ap Ok c.if-new.true in
+    let told = told_ok _ _ c.put.result c.in_ok-new.new c.in_ok-new.ensures.cases c.in_ok-new.ensures.variant in
     let o = outcome_told rule_eq rule_eq_same s.rules c.put.new.self c.args.rule told c.put.ensures.outcome in
-    record {
-      entered = (fine, absent_not (items s.rules) c.args.rule o.0, room_left s.rules.len s.rules.places.now s.sized.0 o.1, o.2);
-      places = o.3;
-      family = refl;
-      tables = (refl, refl);
-    }
-
-pub returns-else-new : goal.returns-else-new
-returns-else-new c =
-    let s = c.args.self.now in
-    let fine : Admitted s.family c.args.rule = record { fits = c.if-not-fits.ensures.0 refl; taken = c.if-not-takes.ensures.0 refl } in
-    let told : c.put.result ≡ Ok false = told_ok _ _ c.put.result c.in_ok-new.new c.in_ok-new.ensures.cases c.in_ok-new.ensures.variant ∙ ap Ok c.if-new.false in
-    let o = outcome_told rule_eq rule_eq_same s.rules c.put.new.self c.args.rule told c.put.ensures.outcome in
-    record {
-      entered = (fine, present_member (items s.rules) c.args.rule o.0, o.1);
-      places = o.2;
-      family = refl;
-      tables = (refl, refl);
-    }
+    let p = entered_put s.family s.rules c.put.new.self c.args.rule c.in_ok-new.new fine s.sized.0 o in
+    rw c.from.ensures record { entered = p.0; places = p.1; family = refl; tables = (refl, refl) }
 
 pub returns-in_err-new : goal.returns-in_err-new
 returns-in_err-new c =

@@ -1,9 +1,9 @@
 use Rattle.distinct.proofs.Decided.{kept_same, outcome_same, outcome_told}
-use Rattle.distinct.proofs.Sameness.{Same, absent_not, all_put, different_repeats, present_member, repeats_different}
+use Rattle.distinct.proofs.Sameness.{Same, absent_not, all_put, different_repeats, repeats_different}
 use Rattle.distinct.proofs.Told.{told_full, told_ok}
 use Rattle.distinct.specs.Items.{items}
-use Rattle.facts.proofs.Listing.{appended_added}
-use Rattle.facts.proofs.Places.{full, has_room, kept, untouched}
+use Rattle.facts.proofs.Places.{full, kept, untouched}
+use Rattle.facts.proofs.Told.{entered_put}
 use Rattle.facts.proofs.list.ListStoreStore.enter.Goals as goal
 use Rattle.facts.specs.Changes.{not_taken, out_of_range}
 use Rattle.facts.specs.Passes.{ListPlaces}
@@ -12,7 +12,7 @@ use Rattle.std.proofs.lemmas.Result.{err_from_is_err_and}
 use Rattle.vocabulary.specs.declared.faults.Fault.TheVariants.{NotTaken}
 use Rattle.vocabulary.specs.Equality.{fact_eq, fact_eq_same}
 use Rattle.vocabulary.specs.Ranges.{FactFits}
-use Rattle.std.proofs.Common.{◌≡◌, true, false, Ok, length, sym, refl, ap, ◌∙◌, subst, rules}
+use Rattle.std.proofs.Common.{◌≡◌, length, sym, refl, subst, rules}
 use mathlib.Core.Logic.{∥∥₁_map}
 
 pub returns-then-not-fits-clause-entered : goal.returns-then-not-fits-clause-entered
@@ -31,23 +31,15 @@ invariant_of-self c =
       fitting = ∥∥₁_map s.fitting (all_put Same FactFits s.held t c.args.fact c.put.result o (c.if-not-fits.ensures.0 refl));
     }
 
-pub returns-then-new-clause-entered : goal.returns-then-new-clause-entered
-returns-then-new-clause-entered c =
+pub returns : goal.returns
+returns c =
     let s = c.args.self.now in
     let t = c.put.new.self in
     let f = c.args.fact in
-    let told : c.put.result ≡ Ok true = told_ok _ _ c.put.result c.in_ok-new.new c.in_ok-new.ensures.cases c.in_ok-new.ensures.variant ∙ ap Ok c.if-new.true in
+    let told = told_ok _ _ c.put.result c.in_ok-new.new c.in_ok-new.ensures.cases c.in_ok-new.ensures.variant in
     let o = outcome_told fact_eq fact_eq_same s.held t f told c.put.ensures.outcome in
-    (c.if-not-fits.ensures.0 refl, has_room s.held.len s.held.places.now o.1, appended_added (items s.held) f (absent_not (items s.held) f o.0) o.2)
-
-pub returns-else-new-clause-entered : goal.returns-else-new-clause-entered
-returns-else-new-clause-entered c =
-    let s = c.args.self.now in
-    let t = c.put.new.self in
-    let f = c.args.fact in
-    let told : c.put.result ≡ Ok false = told_ok _ _ c.put.result c.in_ok-new.new c.in_ok-new.ensures.cases c.in_ok-new.ensures.variant ∙ ap Ok c.if-new.false in
-    let o = outcome_told fact_eq fact_eq_same s.held t f told c.put.ensures.outcome in
-    (present_member (items s.held) f o.0, kept (length s.held.places.now) _ (items s.held) _ c.put.ensures.room o.1)
+    let p = entered_put s.held t f c.in_ok-new.new (c.if-not-fits.ensures.0 refl) c.put.ensures.room o in
+    rw c.from.ensures record { entered = p.0; order = p.1; places = p.2 }
 
 pub returns-in_err-new-clause-entered : goal.returns-in_err-new-clause-entered
 returns-in_err-new-clause-entered c =
