@@ -26,7 +26,8 @@ const MOST: u16 = 4096;
 
 /// It takes facts whose names are below `names` while fewer than 4,096 stand.
 ///
-/// The fact at a place is found by counts of the set bits in each 2,048 bytes and in each 64 bytes of the table.
+/// The fact at a place is found by counts of the set bits in each 2,048 bytes and in each 64 bytes of the table. They are arrays, since
+/// a store takes no heap, and without them each place would cost a way through the table.
 #[derive(Drop)]
 pub struct BitStore<'a> {
     table: &'a mut [u8],

@@ -14,6 +14,9 @@ pub struct Pass {
 
 impl Pass {
     /// The pass, or the fault: a family code that no family has goes before a table of another length.
+    ///
+    /// A number stands for the family here since it comes from outside and may be wrong; the tables are three parameters here and in
+    /// `Draft::open`, since the test only looks at them and opening lends them.
     pub fn test(code: u8, rules: &[Rule], basic: &[u64], linked: &[u64]) -> Result<Pass, Fault>
         ensures { Tested code (length rules.now) (length basic.now) (length linked.now) result }
     {

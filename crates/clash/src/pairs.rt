@@ -21,6 +21,7 @@ struct Hop {
     to: Name,
 }
 
+// Two makings that differ in direction and in the order of the names: one with a flag would be no plainer.
 impl Hop {
     /// A link from its first name to its second.
     fn there(l: Link, a: Name, b: Name) -> Hop

@@ -13,6 +13,7 @@ ghost use Rattle.distinct.specs.Repeats.{Absent, Answers, NoRepeats, Present};
 pub struct Full;
 
 /// The items lie in the first places, in the order in which they came; later places keep what they held.
+/// It is no `Vec`, since the caller lends the places and the engine takes no heap.
 #[derive(Drop)]
 pub struct Distinct<'a, T> {
     places: &'a mut [T],

@@ -7,6 +7,7 @@ use vocabulary::facts::Fact;
 use vocabulary::faults::Fault;
 
 /// What the test gives, and a list store is made with; there is no other way to one.
+/// Each kind of table has a pass of its own: they are tested by different rules and hold different things.
 #[derive(Drop)]
 pub struct ListPass {
     places: usize,

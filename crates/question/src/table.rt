@@ -41,6 +41,7 @@ fn put_merged(table: &mut Distinct<Record>, question: &Parts) -> Result<(), Faul
     ensures { Taken (ByPairs (of_parts question.now)) table.old table.new result }
 {
     let n = question.atoms.len();
+    // Both places are needed to merge, and no atom is read here.
     for i in 0..n {
         for j in i + 1..n {
             if let Some(made) = question.merged(i, j) {

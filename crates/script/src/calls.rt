@@ -100,6 +100,7 @@ impl Written {
         }
     }
 
+    // Not one function with `on_links`: the words, the rules and what else may follow differ.
     fn on_classes(first: u8, words: &mut Words) -> Result<Written, Expected> {
         match words.next() {
             Some("within") => Ok(Written::Within(first, words.read(code, Expected::SecondCode)?)),

@@ -86,7 +86,7 @@ impl From<AllocError> for Refusal {
 #[derive(Drop)]
 pub struct Report {
     pub text: String,
-    /// Whether a line had no answer but an error.
+    /// Whether a line had no answer but an error. A flag of its own: the text is printed either way, and this is the program's status.
     pub failed: bool,
 }
 

@@ -9,6 +9,8 @@ ghost use Rattle.vocabulary.specs.Equality.{fact_eq_same};
 use crate::numbers::{Class, Link, Name};
 
 /// A name in a class, or a link from one name to another.
+///
+/// No generic type stands for facts and atoms: `==` promises sameness of each, which a generic `==` could not say of its terms.
 #[derive(Clone, Copy, Eq)]
 pub enum Fact {
     InClass(Class, Name),
