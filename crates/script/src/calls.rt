@@ -1,14 +1,15 @@
 //! The calls of a script, read from the words of a line.
 
 ghost use Rattle.script.specs.Offers.{Offered};
-ghost use Rattle.script.specs.Rules.{RuleOf};
-ghost use Rattle.std.specs.Prelude.{IfOk};
+ghost use Rattle.script.specs.Rules.{RuleOf, written};
+ghost use Rattle.std.specs.Prelude.{◌≡◌, IfOk, Ok};
+ghost use Rattle.vocabulary.specs.Ranges.{RuleFits};
 
 use crate::expected::Expected;
 use crate::notation::fact;
 use crate::offer::Offer;
 use crate::words::{Words, code, size};
-use vocabulary::basic::{Basic, Directed};
+use vocabulary::basic::{Basic, Coded, Directed};
 use vocabulary::facts::Fact;
 use vocabulary::faults::Fault;
 use vocabulary::rules::Rule;
@@ -119,6 +120,23 @@ impl Written {
             Some("single") => Ok(Written::Single(first)),
             _ => Err(Expected::LinkRelation),
         }
+    }
+}
+
+/// A rule as a call writes it, or the range fault.
+impl TryFrom<Rule> for Written {
+    type Error = Fault;
+
+    ghost try_from_gives = { λ rule res. RuleFits rule → res ≡ Ok (written rule) };
+
+    fn try_from(rule: Rule) -> Result<Written, Fault> {
+        Ok(match rule {
+            Rule::Within(b, c) => Written::Within(b.code()?, c.code()?),
+            Rule::Apart(b, c) => Written::Apart(b.code()?, c.code()?),
+            Rule::LinkWithin(d, e) => Written::LinkWithin(d.code()?, e.code()?),
+            Rule::LinkApart(d, e) => Written::LinkApart(d.code()?, e.code()?),
+            Rule::Single(d) => Written::Single(d.code()?),
+        })
     }
 }
 

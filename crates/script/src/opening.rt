@@ -25,8 +25,8 @@ impl Opening {
     /// The opening of a draft of the family with this code, if one has it.
     pub(crate) fn of(heap: Global, code: u8) -> Result<Opening, Refusal> {
         let rules = vec![in heap; Rule::Single(Directed::Forward(Link(0))); 256]?;
-        let basic = vec![in heap; 0u64; 256]?;
-        let links = vec![in heap; 0u64; 64]?;
+        let basic = vec![in heap; u64::MAX; 256]?;
+        let links = vec![in heap; u64::MAX; 64]?;
         let pass = Pass::test(code, &rules, &basic, &links)?;
         Ok(Opening {
             pass,
