@@ -3,35 +3,34 @@
 ghost use Rattle.std.specs.Prelude.{Decides};
 ghost use Rattle.script.specs.Forms.{Least, NotAfter};
 
-use crate::report::{Line, Report};
 use book::book::Book;
-use std::alloc::AllocError;
+use std::fmt;
 use vocabulary::basic::{Basic, Coded, Directed};
 use vocabulary::faults::Fault;
 
-/// Answers the call that sealed a book: the pairs of basic classes, and then those of links.
-pub(crate) fn answer(line: Line, book: Book, report: &mut Report) -> Result<(), AllocError> {
-    let call = line.call;
-    write!(report.text, "{call} => closure")?;
-    pairs(
-        "",
-        |b: Basic, c: Basic| book.classes_apart(b, c),
-        &mut report.text,
-    )?;
-    pairs(
-        "l",
-        |d: Directed, e: Directed| is_least(d, e) && book.links_apart(d, e),
-        &mut report.text,
-    )?;
-    report.text.push('\n')
+/// The closure of a book as it is answered: the pairs of basic classes, and then those of links.
+#[derive(Clone, Copy)]
+pub(crate) struct Closure<'a>(pub(crate) Book<'a>);
+
+impl fmt::Display for Closure<'_> {
+    fn fmt<W: fmt::Write>(&self, f: &mut fmt::Formatter<W>) -> fmt::Result {
+        let book = self.0;
+        f.write_str("closure")?;
+        pairs("", |b: Basic, c: Basic| book.classes_apart(b, c), f)?;
+        pairs(
+            "l",
+            |d: Directed, e: Directed| is_least(d, e) && book.links_apart(d, e),
+            f,
+        )
+    }
 }
 
 /// Writes the pairs that are kept apart by their codes, which go up from 0: the smaller first, each behind a blank and a sign.
-fn pairs<T: Coded + TryFrom<u8, Error = Fault>, F: Fn(T, T) -> bool>(
+fn pairs<T: Coded + TryFrom<u8, Error = Fault>, F: Fn(T, T) -> bool, W: fmt::Write>(
     sign: &str,
     apart: F,
-    out: &mut String,
-) -> Result<(), AllocError>
+    f: &mut fmt::Formatter<W>,
+) -> fmt::Result
     requires { F.IsAlwaysCallable apart }
 {
     for a in 0..=255u8 {
@@ -43,7 +42,7 @@ fn pairs<T: Coded + TryFrom<u8, Error = Fault>, F: Fn(T, T) -> bool>(
                 break;
             };
             if apart(first, second) {
-                write!(out, " {sign}{a}-{b}")?;
+                write!(f, " {sign}{a}-{b}")?;
             }
         }
     }

@@ -99,7 +99,11 @@ impl Report {
     }
 
     /// Writes the answer to a line.
-    pub(crate) fn answer(&mut self, line: Line, answer: &Answer) -> Result<(), AllocError> {
+    pub(crate) fn answer(
+        &mut self,
+        line: Line,
+        answer: &impl fmt::Display,
+    ) -> Result<(), AllocError> {
         writeln!(self.text, "{} => {answer}", line.call)
     }
 

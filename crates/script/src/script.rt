@@ -8,7 +8,7 @@ ghost use Rattle.std.specs.Prelude.{◌≡◌};
 ghost use Rattle.std.specs.Slice.Iter.{iter_rest};
 
 use crate::calls::{Call, Making};
-use crate::closure;
+use crate::closure::Closure;
 use crate::offer::Offer;
 use crate::opening::Opening;
 use crate::report::{Answer, Line, Refusal, Report};
@@ -101,7 +101,7 @@ impl<'a> Session<'a> {
             return Ok(stop);
         };
         let mut book = draft.seal();
-        closure::answer(line, book, &mut self.report)?;
+        self.report.answer(line, &Closure(book))?;
         self.over(&mut book)
     }
 
