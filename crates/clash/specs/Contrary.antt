@@ -2,6 +2,7 @@
 use Rattle.clash.specs.declared.pairs.Hop.{Hop}
 use Rattle.theory.specs.Clashes.{At, linked}
 use Rattle.theory.specs.Closure.{Excluded, classes, links}
+use Rattle.vocabulary.specs.Codes.{turn}
 use Rattle.vocabulary.specs.declared.basic.Basic.{Basic}
 use Rattle.vocabulary.specs.declared.basic.Basic.TheVariants.{Start}
 use Rattle.vocabulary.specs.declared.basic.Directed.TheVariants.{Forward, Backward}
@@ -20,6 +21,9 @@ there l a b = record { along = Forward l; from = a; to = b }
 
 abbrev pub back : Link → Name → Name → Hop
 back l a b = record { along = Backward l; from = b; to = a }
+
+abbrev pub turned : Hop → Hop
+turned p = record { along = turn p.along; from = p.to; to = p.from }
 
 -- the fact puts the name a into a basic class that excludes b
 abbrev pub Contrary : Family → List Rule → Basic → Name → Fact → Type 0

@@ -1,6 +1,6 @@
 //! Whether two facts clash with the rules of a book.
 
-ghost use Rattle.clash.specs.Contrary.{Contrary, Crossed, Denied, back, there};
+ghost use Rattle.clash.specs.Contrary.{Contrary, Crossed, Denied, there, turned};
 ghost use Rattle.std.specs.Prelude.{◌≡◌, Decides};
 ghost use Rattle.theory.specs.Clashes.{Clash};
 ghost use Rattle.theory.specs.Closure.{Excluded, classes};
@@ -21,7 +21,6 @@ struct Hop {
     to: Name,
 }
 
-// Two makings that differ in direction and in the order of the names: one with a flag would be no plainer.
 impl Hop {
     /// A link from its first name to its second.
     fn there(l: Link, a: Name, b: Name) -> Hop
@@ -34,14 +33,14 @@ impl Hop {
         }
     }
 
-    /// The same link from its second name to its first.
-    fn back(l: Link, a: Name, b: Name) -> Hop
-        ensures { result ≡ back l a b }
+    /// The same from the other name.
+    fn turned(self) -> Hop
+        ensures { result ≡ turned self }
     {
         Hop {
-            along: Directed::Backward(l),
-            from: b,
-            to: a,
+            along: self.along.turn(),
+            from: self.to,
+            to: self.from,
         }
     }
 }
@@ -53,7 +52,8 @@ pub fn clashing(book: &Book, f: Fact, g: Fact) -> bool
     match f {
         Fact::InClass(c, a) => contrary(book, Basic::Named(c), a, g),
         Fact::Linked(l, a, b) => {
-            denied(book, Hop::there(l, a, b), g) | denied(book, Hop::back(l, a, b), g)
+            let hop = Hop::there(l, a, b);
+            denied(book, hop, g) | denied(book, hop.turned(), g)
         }
     }
 }
@@ -86,8 +86,9 @@ fn denied(book: &Book, hop: Hop, fact: Fact) -> bool
     match fact {
         Fact::InClass(_, _) => class,
         Fact::Linked(l, a, b) => {
-            let there = crossed(book, hop, Hop::there(l, a, b));
-            let back = crossed(book, hop, Hop::back(l, a, b));
+            let said = Hop::there(l, a, b);
+            let there = crossed(book, hop, said);
+            let back = crossed(book, hop, said.turned());
             class | (there | back)
         }
     }

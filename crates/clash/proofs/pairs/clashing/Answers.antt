@@ -1,9 +1,9 @@
 use Rattle.clash.proofs.Contrary.{class_clashes, link_clashes}
 use Rattle.clash.proofs.pairs.clashing.Goals as goal
-use Rattle.clash.specs.Contrary.{Denied}
+use Rattle.clash.specs.Contrary.{Denied, turned}
 use Rattle.clash.specs.declared.pairs.Hop.{Hop}
 use Rattle.std.proofs.lemmas.Bool.Decides.{Decides-like, Decides-or}
-use Rattle.std.proofs.Common.{◌||◌, Decides, sym, subst}
+use Rattle.std.proofs.Common.{◌||◌, Decides, sym, ap, ◌∙◌, subst}
 use Rattle.theory.specs.Clashes.{Clash}
 use Rattle.vocabulary.specs.declared.facts.Fact.{Fact}
 
@@ -23,6 +23,6 @@ returns-in-Linked c =
     let x = c.denied.result in
     let y = c.denied-in-Linked.result in
     let tells = link_clashes s.family s.rules.now c.in-Linked.l c.in-Linked.a c.in-Linked.b g in
-    let forth = subst (λ (h : Hop). Decides x (Denied s.family s.rules.now h g)) c.there.ensures c.denied.ensures in
-    let back = subst (λ (h : Hop). Decides y (Denied s.family s.rules.now h g)) c.back.ensures c.denied-in-Linked.ensures in
+    let forth = subst (λ (h : Hop). Decides x (Denied s.family s.rules.now h g)) c.there-hop.ensures c.denied.ensures in
+    let back = subst (λ (h : Hop). Decides y (Denied s.family s.rules.now h g)) (c.turned.ensures ∙ ap turned c.there-hop.ensures) c.denied-in-Linked.ensures in
     subst (λ (f : Fact). Decides (x || y) (Clash s.family s.rules.now f g)) (sym c.in-Linked.is) (Decides-like (x || y) tells.0 tells.1 (Decides-or x y forth back))
