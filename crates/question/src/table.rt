@@ -17,7 +17,7 @@ pub(crate) fn put(table: &mut Distinct<Record>, question: Parts) -> Result<(), F
     ensures { Taken (λ x. x ≡ tidy (of_parts question)) table.old table.new result }
 {
     table
-        .put(Record::of(question.tidied()))
+        .put(Record::from(question.tidied()))
         .map_err(|_| Fault::Rewritings)?;
     Ok(())
 }
