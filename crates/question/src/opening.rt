@@ -16,9 +16,7 @@ fn keep(kept: &mut Short<Atom, 6>, a: Atom)
     requires { length (listed kept.old) < 6 }
     ensures { listed kept.new ≡ added (listed kept.old) a }
 {
-    if !kept.all().contains(&a) {
-        kept.push(a);
-    }
+    kept.push_new(a);
 }
 
 /// The atoms without those that equal an earlier one.
