@@ -1,11 +1,16 @@
 -- Each atom kept once, by a loop that puts it behind those kept.
 use Rattle.vocabulary.specs.Equality.{atom_eq}
-use Rattle.std.proofs.Common.{◌≡◌, ℕ, ◌+◌, ◌<◌, ◌≤◌, Bool, true, false, ◌||◌, List, [], ◌∷◌, ◌++◌, length, get_or, drop, sym, refl, ap, ◌∙◌, subst, append_assoc, append-nil, arith, length-append}
-use Rattle.question.specs.Parts.{added}
+use Rattle.std.proofs.Common.{◌≡◌, ℕ, ◌+◌, ◌<◌, ◌≤◌, Bool, true, false, cond, ◌||◌, List, [], ◌∷◌, ◌++◌, length, get_or, drop, sym, refl, ap, ◌∙◌, subst, append_assoc, append-nil, arith, length-append}
+use Rattle.question.proofs.Counting.{stands_any}
+use Rattle.question.specs.Shorts.{with_new}
 use Rattle.std.proofs.lemmas.List.{at_drop_more, at_drop_all}
 use Rattle.std.proofs.lemmas.Bool.{cond_both, cond-true, cond-false}
 use Rattle.theory.specs.Tidying.{stands_in, once_each}
 use Rattle.vocabulary.specs.declared.questions.Atom.{Atom}
+
+-- the atom put behind the others, unless one of them equals it
+abbrev added : List Atom → Atom → List Atom
+added kept a = cond (stands_in a kept) kept (kept ++ a ∷ [])
 
 -- each atom in turn put behind those kept, if it does not stand there
 unfoldable pub once_onto : List Atom → List Atom → List Atom
@@ -39,6 +44,10 @@ once_onto_is kept before (a ∷ xs) same =
 
 once_all : (xs : List Atom) → once_onto [] xs ≡ once_each [] xs
 once_all xs = once_onto_is [] [] xs (λ a. refl)
+
+-- what a short list promises of a new element, said of atoms
+pub new_added : (kept : List Atom) (a : Atom) → with_new atom_eq kept a ≡ added kept a
+new_added kept a = ap (λ (v : Bool). cond v kept (kept ++ a ∷ [])) (sym (stands_any a kept))
 
 pub once_turn : (d : Atom) (kept made xs : List Atom) (i : ℕ) (all : List Atom) → i < length xs → made ≡ added kept (get_or xs i d) → once_onto kept (drop i xs) ≡ all → once_onto made (drop (i + 1) xs) ≡ all
 unfolding once_onto

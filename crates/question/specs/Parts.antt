@@ -1,9 +1,9 @@
 -- The question that parts make up, and what tidying them asks for.
-use Rattle.std.specs.Prelude.{◌≡◌, ℕ, true, cond, List, [], ◌∷◌, ◌++◌}
+use Rattle.std.specs.Prelude.{◌≡◌, ℕ, true, List}
 use Rattle.question.specs.Shorts.{listed}
 use Rattle.question.specs.declared.parts.Parts.{Parts}
 use Rattle.theory.specs.Questions.{Query}
-use Rattle.theory.specs.Tidying.{known, stands_in}
+use Rattle.theory.specs.Tidying.{known}
 use Rattle.vocabulary.specs.declared.questions.Atom.TheVariants.{IsIn, Joins}
 use Rattle.vocabulary.specs.declared.questions.Atom.{Atom}
 use Rattle.vocabulary.specs.declared.questions.Term.TheVariants.{Variable, Constant, Open}
@@ -11,10 +11,6 @@ use Rattle.vocabulary.specs.declared.questions.Term.{Term}
 
 abbrev pub of_parts : Parts → Query
 of_parts p = record { head = listed p.head; atoms = listed p.atoms }
-
--- the atom put behind the others, unless one of them equals it
-abbrev pub added : List Atom → Atom → List Atom
-added kept a = cond (stands_in a kept) kept (kept ++ a ∷ [])
 
 -- it holds of each term of the atom
 abbrev pub OfAtom : (Term → Type 0) → Atom → Type 0

@@ -163,7 +163,7 @@ impl Question<'_> {
             return Err(Fault::Unbound);
         }
         let head = self.terms();
-        Ok(Record::of(Parts { head, atoms }))
+        Ok(Record::from(Parts { head, atoms }))
     }
 
     /// The record of the question, or the fault: a number out of range goes before all others.

@@ -16,6 +16,7 @@ fn occurrences(n: u8, ts: &[Term]) -> usize
 }
 
 /// How often the variable `n` stands in the atom.
+// The order of the variables matches so too: no function can hand out a slice of an atom's terms, and a list made for it would be no plainer.
 #[tactic(auto, unfolding(theory::specs::Tidying::all_terms))]
 fn occurrences_in_atom(n: u8, a: Atom) -> usize
     ensures { (result ≡ times n (all_terms (a ∷ []))) × (result ≤ 2) }

@@ -1,7 +1,7 @@
 //! Short lists: reading them, and making one from another.
 
 ghost use Rattle.std.specs.Prelude.{◌≡◌, ◌<◌, ◌≤◌, [], ◌∷◌, ◌++◌, length, map, slice_set};
-ghost use Rattle.question.specs.Shorts.{Computes, listed};
+ghost use Rattle.question.specs.Shorts.{Computes, listed, with_new};
 ghost use Rattle.std.specs.List.{remove};
 ghost use mathlib.Core.List.{Memᴰ};
 
@@ -74,6 +74,18 @@ impl<T: Copy, const N: usize> Short<T, N> {
     {
         self.items[self.count] = x;
         self.count += 1;
+    }
+
+    /// Puts `x` behind the others, unless one of them equals it.
+    pub(crate) fn push_new(&mut self, x: T)
+    where
+        T: PartialEq,
+        requires { length (listed self.old) < N }
+        ensures { listed self.new ≡ with_new T.PartialEq.eq (listed self.old) x }
+    {
+        if !self.all().contains(&x) {
+            self.push(x);
+        }
     }
 
     /// Puts `x` in place of the element at `i`.

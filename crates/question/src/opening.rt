@@ -1,7 +1,7 @@
 //! One round of tidying: equal atoms once, and then lone variables opened.
 
-ghost use Rattle.std.specs.Prelude.{◌≡◌, ◌<◌, [], length};
-ghost use Rattle.question.specs.Parts.{added, of_parts};
+ghost use Rattle.std.specs.Prelude.{◌≡◌, []};
+ghost use Rattle.question.specs.Parts.{of_parts};
 ghost use Rattle.question.specs.Shorts.{listed};
 ghost use Rattle.theory.specs.Tidying.{all_terms, lone, once_each, opened, round};
 
@@ -10,24 +10,13 @@ use crate::parts::Parts;
 use crate::short::Short;
 use vocabulary::questions::{Atom, Term};
 
-/// Puts the atom behind those kept, unless one of them equals it.
-#[tactic(auto, using(crate::proofs::Counting::stands_any))]
-fn keep(kept: &mut Short<Atom, 6>, a: Atom)
-    requires { length (listed kept.old) < 6 }
-    ensures { listed kept.new ≡ added (listed kept.old) a }
-{
-    if !kept.all().contains(&a) {
-        kept.push(a);
-    }
-}
-
 /// The atoms without those that equal an earlier one.
 fn once_each(xs: &Short<Atom, 6>) -> Short<Atom, 6>
     ensures { listed result ≡ once_each [] (listed xs.now) }
 {
     let mut made = Short::empty();
     for a in xs.all() {
-        keep(&mut made, *a);
+        made.push_new(*a);
     }
     made
 }

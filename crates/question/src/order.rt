@@ -13,14 +13,13 @@ use crate::short::Short;
 use vocabulary::questions::{Atom, Term};
 
 /// Notes the variable of the term where it is new.
-#[tactic(auto, unfolding(theory::specs::Tidying::firsts))]
+#[tactic(auto, using(crate::proofs::Counting::known_any), unfolding(theory::specs::Tidying::firsts))]
 fn note(seen: &mut Short<u8, 16>, t: Term)
     requires { length (listed seen.old) < 16 }
     ensures { listed seen.new ≡ firsts (t ∷ []) (listed seen.old) }
 {
-    match t {
-        Term::Variable(n) if !seen.all().contains(&n) => seen.push(n),
-        _ => (),
+    if let Term::Variable(n) = t {
+        seen.push_new(n);
     }
 }
 

@@ -6,7 +6,7 @@ ghost use Rattle.std.specs.Prelude.{◌≡◌};
 
 use crate::parts::Parts;
 
-/// The parts of a question, with their fingerprint, by which two different ones are mostly told apart at once.
+/// The parts of a question, with their fingerprint, by which two different ones are mostly told apart at once. It has no `Model`, as a `Short` has none.
 #[derive(Clone, Copy)]
 pub struct Record {
     pub(crate) print: u32,

@@ -18,17 +18,19 @@ impl Parts {
     }
 }
 
-impl Record {
-    /// The record of a question in parts.
-    pub(crate) fn of(parts: Parts) -> Record
-        ensures { query result ≡ of_parts parts }
-    {
+/// The record of a question in parts.
+impl From<Parts> for Record {
+    ghost from_gives = { λ parts made. query made ≡ of_parts parts };
+
+    fn from(parts: Parts) -> Record {
         Record {
             print: parts.print(),
             parts,
         }
     }
+}
 
+impl Record {
     /// The terms of the head, in order.
     pub fn head(&self) -> &[Term]
         ensures { result.now ≡ (query self.now).head }

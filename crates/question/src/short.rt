@@ -6,7 +6,8 @@ use std::alloc::AllocError;
 
 /// The list is the first `count` of `items`; what lies behind them says nothing.
 ///
-/// It holds no heap, since records lie in a table that the caller lends.
+/// It holds no heap, since records lie in a table that the caller lends, and it is `Copy` as they are, which an `ArrayVec` is not.
+/// It has no `Model`, since the view of a `Copy` type has to give its fields back, and what lies behind the list is lost in one.
 pub struct Short<T, const N: usize> {
     pub(crate) items: [T; N],
     pub(crate) count: usize,

@@ -12,12 +12,14 @@ use distinct::Distinct;
 use vocabulary::faults::Fault;
 use vocabulary::rules::Rule;
 
+// Table, rules and question stay three parameters: each loop would take a struct of them apart again.
+
 /// Puts the tidy question in, unless it stands there.
 pub(crate) fn put(table: &mut Distinct<Record>, question: Parts) -> Result<(), Fault>
     ensures { Taken (λ x. x ≡ tidy (of_parts question)) table.old table.new result }
 {
     table
-        .put(Record::of(question.tidied()))
+        .put(Record::from(question.tidied()))
         .map_err(|_| Fault::Rewritings)?;
     Ok(())
 }
