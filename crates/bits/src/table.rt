@@ -17,7 +17,7 @@ pub fn word_at(words: &[u64], i: usize) -> u64
     words.get(i).copied().unwrap_or(0)
 }
 
-/// A table that bits are set in.
+/// A table that bits are set in. The caller lends it. It has no `Model`: clauses speak of the words, which are all that it has.
 #[derive(Drop)]
 pub struct Bits<'a> {
     words: &'a mut [u64],

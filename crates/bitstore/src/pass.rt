@@ -5,7 +5,7 @@ ghost use Rattle.std.specs.Prelude.{length};
 
 use vocabulary::faults::Fault;
 
-/// What the test gives, and a bit store is made with; there is no other way to one.
+/// What the test gives, and a bit store is made with; there is no other way to one. Each kind of table has a pass of its own.
 #[derive(Drop)]
 pub struct BitPass {
     pub(crate) names: usize,

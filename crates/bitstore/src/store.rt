@@ -72,6 +72,7 @@ impl<'a> BitStore<'a> {
         bit(self.table, k)
     }
 
+    // That the names stay is a clause here as in the calls: it says what a call leaves as it was, which no invariant can.
     /// Turns a bit over and keeps the counts by it: it is set now if `on`, and else it is clear.
     fn turn(&mut self, k: usize, on: bool)
         requires inside { k < bits self.old.names }

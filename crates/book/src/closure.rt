@@ -71,6 +71,7 @@ pub(crate) struct Closure<'a> {
 }
 
 // Each step asks that its links are in range: a type of links in range is no plainer, since each arm that takes a rule apart would owe a proof to make one.
+// The family is a parameter of five methods: as a field, each would promise that it stays.
 impl<'a> Closure<'a> {
     /// The exclusion closure of the rules, in two tables of any content: rounds until one adds nothing.
     pub(crate) fn of(
@@ -136,6 +137,7 @@ impl<'a> Closure<'a> {
         }
     }
 
+    // Not one function with the marks' `lead_link`: what a step does differs, and only the order of the four is the same.
     /// A link within another: what holds of its pairs, of where it starts and of where it ends.
     fn apply_link_within(&mut self, d: Directed, e: Directed) -> bool
         requires { (DirectedFits d) × (DirectedFits e) }

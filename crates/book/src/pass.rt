@@ -6,7 +6,7 @@ ghost use Rattle.std.specs.Prelude.{length};
 use vocabulary::faults::Fault;
 use vocabulary::rules::{Family, Rule};
 
-/// What the test gives, and a draft is opened with; there is no other way to one.
+/// What the test gives, and a draft is opened with; there is no other way to one. Each kind of table has a pass of its own.
 #[derive(Drop)]
 pub struct Pass {
     pub(crate) family: Family,

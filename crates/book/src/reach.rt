@@ -38,7 +38,7 @@ struct Marks<'a> {
     ghost sized: { length bits.words.now ≡ 3 },
 }
 
-// Each step asks that its nodes are in range: a type of nodes in range is no plainer, since each arm that takes a rule apart would owe a proof to make one.
+// Each step asks that its rule, link or nodes are in range: a type of nodes in range is no plainer, since each arm that takes a rule apart would owe a proof to make one.
 impl<'a> Marks<'a> {
     /// A mark on one node alone, in words of any content.
     fn on(words: &'a mut [u64], n: Node) -> Marks<'a>

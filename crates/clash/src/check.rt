@@ -22,6 +22,8 @@ pub fn check<S: Source>(book: &Book, source: &S) -> Option<Clash>
     Some(Clash::Two(f, g))
 }
 
+// Book and source stay two parameters of two searches: a struct of them would be taken apart again in each.
+
 /// The first fact by place that clashes alone.
 fn first_alone<S: Source>(book: &Book, source: &S) -> Option<Fact>
     ensures { MatchOption result (NoneAlone book.now.family book.now.rules.now (S.Source.facts source.now)) (FirstAlone book.now.family book.now.rules.now (S.Source.facts source.now)) }

@@ -13,7 +13,8 @@ ghost use Rattle.distinct.specs.Repeats.{Absent, Answers, NoRepeats, Present};
 pub struct Full;
 
 /// The items lie in the first places, in the order in which they came; later places keep what they held.
-/// It is no `Vec`, since the caller lends the places and the engine takes no heap.
+/// It is no `Vec`, since the caller lends the places and the engine takes no heap. It has no `Model`, since clauses speak of the free
+/// places and of which places were lent too, so that a view would be the fields again.
 #[derive(Drop)]
 pub struct Distinct<'a, T> {
     places: &'a mut [T],

@@ -20,7 +20,7 @@ pub enum AskedTerm {
     Named(Name),
 }
 
-/// A term in a class, or a link from one term to another. It is no `Atom` over other terms, since its tests are methods here, and that type is another crate's.
+/// A term in a class, or a link from one term to another. It is no `Atom` over other terms: that would be no plainer, since its tests are methods here and that type is another crate's.
 #[derive(Clone, Copy)]
 pub enum AskedAtom {
     InClass(Class, AskedTerm),

@@ -43,6 +43,8 @@ impl<'a> Words<'a> {
     }
 }
 
+// Not one function for codes, sizes and names: nothing says of any type of numbers which is its largest.
+
 /// The code that a word writes. One past 255 answers 255, which is out of every range too.
 pub(crate) fn code(word: &str) -> Option<u8>
     ensures { Reads 255 word.now result }

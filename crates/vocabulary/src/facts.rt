@@ -10,7 +10,7 @@ use crate::numbers::{Class, Link, Name};
 
 /// A name in a class, or a link from one name to another.
 ///
-/// No generic type stands for facts and atoms: `==` promises sameness of each, which a generic `==` could not say of its terms.
+/// No generic type stands for facts and atoms: it would be no plainer, since `==` promises sameness of each and would be written for each anyway.
 #[derive(Clone, Copy, Eq)]
 pub enum Fact {
     InClass(Class, Name),

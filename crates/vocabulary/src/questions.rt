@@ -61,7 +61,7 @@ impl PartialEq for Atom {
     }
 }
 
-/// What makes two terms equal, where something does.
+/// What makes two terms equal, where something does. An option of a binding would be no plainer, since unifying answers an option of this.
 #[derive(Clone, Copy)]
 pub enum Unifier {
     /// Nothing has to be done.
