@@ -78,6 +78,7 @@ impl<'a> Book<'a> {
         Ok(self.implies(rule))
     }
 
+    // The range of the rule and of the nodes is asked for here: a type of nodes in range is no plainer.
     /// What reaching and the exclusion closure say of a rule in range.
     fn implies(&self, rule: Rule) -> bool
         requires { RuleFits rule }

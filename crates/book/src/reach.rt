@@ -70,6 +70,7 @@ impl<'a> Marks<'a> {
         true
     }
 
+    // Not one function with the closure's `apply_link_within`: what a step does differs, and only the order of the four is the same.
     /// Lets a link within another lead on, as a link and from where it starts and ends.
     fn lead_link(&mut self, d: Directed, e: Directed) -> bool
         requires { (DirectedFits d) × (DirectedFits e) }
@@ -99,6 +100,7 @@ impl<'a> Marks<'a> {
         }
     }
 
+    // Nor one loop with the closure's `apply_all`, for the same reason.
     /// Lets every rule lead on once.
     fn lead_all(&mut self, rules: InRange<'_>) -> bool
         ensures { Spreads (λ all. all ≡ rules.entry.all.now) (LedFirst rules.entry.all.now (length rules.entry.all.now)) result self.old.bits.words.now self.new.bits.words.now }

@@ -34,6 +34,7 @@ fn note_all(seen: &mut Short<u8, 16>, ts: &[Term])
     }
 }
 
+// Matches as counting does: `occurrences_in_atom` says why.
 /// Notes those variables of the atom that are new.
 #[tactic(auto, unfolding(theory::specs::Tidying::all_terms))]
 fn note_atom(seen: &mut Short<u8, 16>, a: Atom)

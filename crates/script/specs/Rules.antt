@@ -1,5 +1,5 @@
 -- A rule and the codes that stand in it.
-use Rattle.std.specs.Prelude.{◌≡◌, ◌≤◌, ◌⊎◌, Result, MatchResult}
+use Rattle.std.specs.Prelude.{◌≡◌, ◌≤◌, ◌⊎◌, Ok, Err, Result, MatchResult}
 use Rattle.vocabulary.specs.declared.faults.Fault.{Fault}
 use Rattle.vocabulary.specs.declared.rules.Rule.{Rule}
 use Rattle.vocabulary.specs.declared.rules.Rule.TheVariants as rule
@@ -27,3 +27,8 @@ Beyond (Single a) = 64 ≤ a
 -- the rule in range that is so written, or the range fault where there is none
 abbrev pub RuleOf : Written → Result Rule Fault → Type 0
 RuleOf w r = MatchResult r (λ x. RuleFits x × (written x ≡ w)) (λ f. Beyond w × (number f ≡ 2))
+
+-- a rule in range as it is written; of any other, the range fault
+abbrev pub WrittenOf : Rule → Result Written Fault → Type 0
+WrittenOf r (Ok w) = RuleFits r × (w ≡ written r)
+WrittenOf r (Err f) = (RuleFits r → ⊥) × (number f ≡ 2)

@@ -1,7 +1,7 @@
 //! The calls of a script, read from the words of a line.
 
 ghost use Rattle.script.specs.Offers.{Offered};
-ghost use Rattle.script.specs.Rules.{RuleOf, written};
+ghost use Rattle.script.specs.Rules.{RuleOf, WrittenOf};
 ghost use Rattle.std.specs.Prelude.{◌≡◌, IfOk, Ok};
 ghost use Rattle.vocabulary.specs.Ranges.{RuleFits};
 
@@ -17,7 +17,7 @@ use vocabulary::rules::Rule;
 /// One call, with its numbers as they are written: any may be out of range.
 #[derive(Clone, Copy)]
 pub(crate) enum Call {
-    /// Opens a draft of the family with this code.
+    /// Opens a draft of the family with this code: a number, since it comes from outside, and a wrong one is refused with a fault.
     Family(u8),
     /// Enters a rule in the draft.
     Rule(Written),
@@ -127,7 +127,7 @@ impl Written {
 impl TryFrom<Rule> for Written {
     type Error = Fault;
 
-    ghost try_from_gives = { λ rule res. RuleFits rule → res ≡ Ok (written rule) };
+    ghost try_from_gives = { WrittenOf };
 
     fn try_from(rule: Rule) -> Result<Written, Fault> {
         Ok(match rule {

@@ -16,6 +16,7 @@ pub(crate) fn fact(word: &str) -> Option<Fact> {
     Some(Fact::Linked(Link(code(link)?), name(from)?, name(to)?))
 }
 
+// Not one function with `code` and `size`: one line each, and nothing says of any type of numbers which is its largest.
 /// The name that a word writes. One past 65,535 answers that, which is out of range too.
 fn name(word: &str) -> Option<Name> {
     Some(Name(u16::try_from(number(word)?).unwrap_or(u16::MAX)))

@@ -35,7 +35,7 @@ impl PartialEq for Term {
     }
 }
 
-/// A term in a class, or a link from one term to another.
+/// A term in a class, or a link from one term to another. Why no generic type stands for facts and atoms is said at `Fact`.
 #[derive(Clone, Copy)]
 pub enum Atom {
     IsIn(Class, Term),
