@@ -21,7 +21,7 @@ abbrev pub Tables : Type 0
 Tables = List ℕ × List ℕ
 
 abbrev pub tables : Closure → Tables
-tables c = (c.classes.relation.bits.words.now, c.links.relation.bits.words.now)
+tables c = (c.classes.relation.strided.bits.words.now, c.links.relation.strided.bits.words.now)
 
 -- how many bits are not set
 abbrev pub left : Tables → ℕ

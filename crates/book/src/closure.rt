@@ -25,7 +25,7 @@ impl<'a, K: Coded, const STRIDE: u8> Apart<'a, K, STRIDE> {
     /// No pair, whatever the words hold.
     fn none(words: &'a mut [u64]) -> Apart<'a, K, STRIDE>
         requires { length words.old ≡ 64 * (STRIDE * STRIDE) }
-        ensures { (a b : ℕ) → On STRIDE result.relation.bits.words.now a b → ⊥ }
+        ensures { (a b : ℕ) → On STRIDE result.relation.strided.bits.words.now a b → ⊥ }
     {
         Apart {
             relation: Relation::none(words),
@@ -35,28 +35,28 @@ impl<'a, K: Coded, const STRIDE: u8> Apart<'a, K, STRIDE> {
 
     /// Whether two are kept apart.
     fn has(&self, x: K, y: K) -> bool
-        ensures { Decides result (On STRIDE self.now.relation.bits.words.now (K.number x) (K.number y)) }
+        ensures { Decides result (On STRIDE self.now.relation.strided.bits.words.now (K.number x) (K.number y)) }
     {
         self.relation.has(x.index(), y.index())
     }
 
     /// Keeps two apart, and says whether that is new.
     fn exclude(&mut self, x: K, y: K) -> bool
-        ensures { Joins STRIDE (K.number x) (K.number y) result self.old.relation.bits.words.now self.new.relation.bits.words.now }
+        ensures { Joins STRIDE (K.number x) (K.number y) result self.old.relation.strided.bits.words.now self.new.relation.strided.bits.words.now }
     {
         self.relation.add(x.index(), y.index())
     }
 
     /// Keeps `from` apart from all that `to` is kept apart from, and says whether that is anything new.
     fn narrow(&mut self, from: K, to: K) -> bool
-        ensures { Inherits STRIDE (K.number from) (K.number to) result self.old.relation.bits.words.now self.new.relation.bits.words.now }
+        ensures { Inherits STRIDE (K.number from) (K.number to) result self.old.relation.strided.bits.words.now self.new.relation.strided.bits.words.now }
     {
         self.relation.inherit(from.index(), to.index())
     }
 
     /// The words, for as long as they are lent.
     fn into_words(self) -> &'a [u64]
-        ensures { result.now ≡ self.entry.relation.bits.words.now }
+        ensures { result.now ≡ self.entry.relation.strided.bits.words.now }
     {
         let Apart { relation, kind: _ } = self;
         relation.into_words()

@@ -12,6 +12,7 @@ pub mod program;
 pub mod report;
 mod rules;
 pub mod script;
+mod session;
 mod shelf;
 mod stock;
 mod words;

@@ -7,7 +7,7 @@ use book::pass::Pass;
 use std::alloc::Global;
 use vocabulary::basic::Directed;
 use vocabulary::numbers::Link;
-use vocabulary::rules::Rule;
+use vocabulary::rules::{Family, Rule};
 
 /// The tables of a draft, and the pass that they gave.
 #[derive(Drop)]
@@ -24,6 +24,8 @@ pub(crate) struct Opening {
 impl Opening {
     /// The opening of a draft of the family with this code, if one has it.
     pub(crate) fn of(heap: Global, code: u8) -> Result<Opening, Refusal> {
+        // A code of no family is refused before any table is made.
+        Family::try_from(code)?;
         let rules = vec![in heap; Rule::Single(Directed::Forward(Link(0))); 256]?;
         let basic = vec![in heap; u64::MAX; 256]?;
         let links = vec![in heap; u64::MAX; 64]?;

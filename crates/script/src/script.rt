@@ -3,8 +3,10 @@
 //! Drafts, books and stores borrow their tables, so each stands within a function that goes through the lines of a section.
 //! A section ends where a draft is opened or sealed or a store is made; one function serves all sections.
 
-ghost use Rattle.script.specs.Sections.{GoesTo};
-ghost use Rattle.std.specs.Prelude.{◌≡◌};
+ghost use Rattle.script.specs.declared.offer.Offer.TheVariants as offers;
+ghost use Rattle.script.specs.Offers.{KeepsOffer, Offered};
+ghost use Rattle.script.specs.Sections.{GoesTo, Kept};
+ghost use Rattle.std.specs.Prelude.{◌≡◌, IfOk};
 ghost use Rattle.std.specs.Slice.Iter.{iter_rest};
 
 use crate::calls::{Call, Making};
@@ -13,6 +15,7 @@ use crate::offer::Offer;
 use crate::opening::Opening;
 use crate::report::{Answer, Line, Refusal, Report};
 use crate::rules::{NoDraft, Rules};
+use crate::session::Session;
 use crate::shelf::{Held, NoStore, Shelf};
 use crate::stock::{Stock, bytes, listed, places};
 use bitstore::pass::BitPass;
@@ -22,7 +25,6 @@ use facts::list::ListStore;
 use facts::pass::ListPass;
 use facts::source::Store;
 use std::alloc::{AllocError, Global};
-use std::slice;
 
 /// Answers the calls of a script, of those on offer.
 pub fn run(heap: Global, text: &str, offer: Offer) -> Result<Report, AllocError> {
@@ -71,23 +73,11 @@ pub(crate) enum Stop<'a> {
     Store(Stock),
 }
 
-/// A script that is being answered. That a section leaves fewer lines is a relation of the lines before and after, which no
-/// invariant can hold: each function that answers sections promises it.
-#[derive(Drop)]
-struct Session<'a> {
-    heap: Global,
-    offer: Offer,
-    /// The lines that remain.
-    lines: slice::Iter<'a, Line<'a>>,
-    /// The store between two sections.
-    stock: Option<Stock>,
-    report: Report,
-}
-
 impl<'a> Session<'a> {
     /// Opens a draft, and answers the lines for which it or its book stands.
     fn opened(&mut self, opening: Opening) -> Result<Option<Stop<'a>>, AllocError>
-        ensures { GoesTo self.old self.new result }
+        ensures goes { GoesTo self.old self.new result }
+        ensures offer { KeepsOffer self.old self.new result }
     {
         let Opening {
             pass,
@@ -107,7 +97,8 @@ impl<'a> Session<'a> {
 
     /// Answers the lines for which these rules stand, over one store after another.
     fn over<R: Rules>(&mut self, rules: &mut R) -> Result<Option<Stop<'a>>, AllocError>
-        ensures { GoesTo self.old self.new result }
+        ensures goes { GoesTo self.old self.new result }
+        ensures offer { KeepsOffer self.old self.new result }
     {
         let mut stop = self.stocked(rules)?;
         while let Some(Stop::Store(stock)) = stop {
@@ -119,7 +110,8 @@ impl<'a> Session<'a> {
 
     /// Answers the lines of a section over the store that was made last, if one was, which is made anew.
     fn stocked<R: Rules>(&mut self, rules: &mut R) -> Result<Option<Stop<'a>>, AllocError>
-        ensures { GoesTo self.old self.new result }
+        ensures goes { GoesTo self.old self.new result }
+        ensures offer { KeepsOffer self.old self.new result }
     {
         let Some(stock) = self.stock.take() else {
             return self.section(rules, &mut NoStore);
@@ -128,28 +120,36 @@ impl<'a> Session<'a> {
             Making::List(count) => {
                 let mut table = places(self.heap, count)?;
                 let pass = ListPass::test(&table).unwrap();
-                self.stored(rules, ListStore::new(pass, &mut table), stock)
+                let mut held = Held {
+                    store: ListStore::new(pass, &mut table),
+                };
+                self.stored(rules, &mut held, stock)
             }
             Making::Bits(names) => {
                 let mut table = bytes(self.heap, names)?;
                 let pass = BitPass::test(names, &table).unwrap();
-                self.stored(rules, BitStore::new(pass, &mut table), stock)
+                let mut held = Held {
+                    store: BitStore::new(pass, &mut table),
+                };
+                self.stored(rules, &mut held, stock)
             }
         }
     }
 
     /// Answers the lines of a section over a store, and keeps what it then lists.
-    fn stored<R: Rules, S: Store + Drop>(
+    fn stored<R: Rules, S: Store>(
         &mut self,
         rules: &mut R,
-        store: S,
+        held: &mut Held<S>,
         mut stock: Stock,
     ) -> Result<Option<Stop<'a>>, AllocError>
-        ensures { GoesTo self.old self.new result }
+        requires { self.old.offer ≡ offers.Facts }
+        ensures goes { GoesTo self.old self.new result }
+        ensures offer { KeepsOffer self.old self.new result }
+        ensures kept { IfOk result (λ _. Kept (S.Source.facts held.new.store) self.new.stock) }
     {
-        let mut held = Held { store };
         stock.restore(&mut held.store);
-        let stop = self.section(rules, &mut held)?;
+        let stop = self.section(rules, held)?;
         stock.facts = listed(self.heap, &held.store)?;
         self.stock = Some(stock);
         Ok(stop)
@@ -161,7 +161,8 @@ impl<'a> Session<'a> {
         rules: &mut R,
         shelf: &mut F,
     ) -> Result<Option<Stop<'a>>, AllocError>
-        ensures { GoesTo self.old self.new result }
+        ensures goes { GoesTo self.old self.new result }
+        ensures offer { KeepsOffer self.old self.new result }
     {
         while let Some(line) = self.lines.next() {
             match self.answer(*line, rules, shelf) {
@@ -180,9 +181,26 @@ impl<'a> Session<'a> {
         rules: &mut R,
         shelf: &mut F,
     ) -> Result<Option<Stop<'a>>, Refusal>
-        ensures { iter_rest self.new.lines ≡ iter_rest self.old.lines }
+        ensures lines { iter_rest self.new.lines ≡ iter_rest self.old.lines }
+        ensures offer { KeepsOffer self.old self.new result }
     {
-        let answer = match Call::read(line.call, self.offer)? {
+        let call = Call::read(line.call, self.offer)?;
+        self.called(line, call, rules, shelf)
+    }
+
+    /// Answers a call on offer, unless it ends the section.
+    fn called<R: Rules, F: Shelf>(
+        &mut self,
+        line: Line<'a>,
+        call: Call,
+        rules: &mut R,
+        shelf: &mut F,
+    ) -> Result<Option<Stop<'a>>, Refusal>
+        requires { Offered self.old.offer call }
+        ensures lines { iter_rest self.new.lines ≡ iter_rest self.old.lines }
+        ensures offer { KeepsOffer self.old self.new result }
+    {
+        let answer = match call {
             Call::Family(code) => {
                 let opening = Opening::of(self.heap, code)?;
                 self.report.answer(line, &Answer::Done)?;

@@ -4,25 +4,35 @@
 
 #![tactic(auto)]
 
+ghost use Rattle.script.specs.declared.offer.Offer.TheVariants.{Rules};
+ghost use Rattle.std.specs.Prelude.{◌≡◌};
+
 mod reading;
 
 use script::offer::Offer;
 use script::program::answer_all;
 
+/// The calls that this program takes: those on rules alone.
+fn offer() -> Offer
+    ensures { result ≡ Rules }
+{
+    Offer::Rules
+}
+
 fn main(rt: HostRuntime) -> anyhow::Result<()> {
-    answer_all(&rt, Offer::Rules)
+    answer_all(&rt, offer())
 }
 
 #[cfg(test)]
 mod tests {
-    use script::offer::Offer;
+    use super::*;
     use script::script::run;
     use std::process::Abort;
     use std::test::Fail;
 
     // Runs a script with an error in it, and compares what it answers.
     fn answers(rt: &(impl Abort + AllocGlobal), text: &str, expected: &str) -> Result<(), Fail> {
-        let report = run(rt.alloc(), text, Offer::Rules)?;
+        let report = run(rt.alloc(), text, offer())?;
         assert!(rt; report.failed);
         assert_eq!(rt; report.text.as_str(), expected);
         Ok(())
@@ -77,6 +87,18 @@ mod tests {
              seal => error: line 9: the book is sealed, expected `family` before another seal\n\
              family 1 => ok\n\
              seal => closure\n",
+        )
+    }
+
+    #[test]
+    fn takes_no_call_on_facts(rt: HostRuntime) -> Result<(), Fail> {
+        answers(
+            &rt,
+            "store list 128\nenter c5(7)\nwithdraw c5(7)\nlist\n",
+            "store list 128 => error: line 1: expected `family`, `rule`, `seal` or `follows`\n\
+             enter c5(7) => error: line 2: expected `family`, `rule`, `seal` or `follows`\n\
+             withdraw c5(7) => error: line 3: expected `family`, `rule`, `seal` or `follows`\n\
+             list => error: line 4: expected `family`, `rule`, `seal` or `follows`\n",
         )
     }
 }

@@ -1,10 +1,10 @@
-use Rattle.std.proofs.Common.{length}
+use Rattle.std.proofs.Common.{◌≡◌, length}
 use Rattle.std.specs.Slice.Iter.{iter_rest}
 use Rattle.script.proofs.Onwards.{Onward}
-use Rattle.script.proofs.script.Session.section.Given as goal
+use Rattle.script.proofs.session.Session.section.Given as goal
 
 abbrev pub invariant-loop-line : goal.invariant-loop-line
-invariant-loop-line g l = Onward (iter_rest l.fn.self.lines) (iter_rest l.self.lines)
+invariant-loop-line g l = Onward (iter_rest l.fn.self.lines) (iter_rest l.self.lines) × (l.self.offer ≡ l.fn.self.offer)
 
 abbrev pub decreases-loop-line : goal.decreases-loop-line
 decreases-loop-line g l = length (iter_rest l.self.lines)

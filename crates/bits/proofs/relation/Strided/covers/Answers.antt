@@ -1,13 +1,13 @@
 use Rattle.std.proofs.Common.{◌∙◌, ◌≡◌, ℕ, ◌==◌, sym, subst₂, arith, rules, tests}
 use Rattle.bits.proofs.Inheriting.{row_covers, zipped_all}
-use Rattle.bits.proofs.relation.Relation.covers.Goals as goal
+use Rattle.bits.proofs.relation.Strided.covers.Goals as goal
 use Rattle.std.proofs.lemmas.Iterator.{YieldsList-from_slice, YieldsList-from_zip}
 use Rattle.std.proofs.lemmas.Iterator.Search.{all_from_yields_List}
 use Rattle.std.specs.Int.Bits.{bit_or}
 
 pub returns : goal.returns
-returns g c e h =
-    let z = g.row.STRIDE in
+returns c e h =
+    let z = c.args.self.now.stride in
     let t = c.args.self.now.bits.words.now in
     let theirs = c.row.result.now in
     let mine = c.row-2.result.now in
