@@ -32,4 +32,4 @@ StopOffered o (stop.Store stock) = o ≡ offer.Facts
 
 -- a session keeps its offer, and makes no store but by it
 abbrev pub KeepsOffer : {E : Type 0} → Session → Session → Result (Option Stop) E → Type 0
-KeepsOffer before after answer = (after.offer ≡ before.offer) × IfOk answer (λ stop. IfSome stop (StopOffered before.offer))
+KeepsOffer before after answer = (after.report.offer ≡ before.report.offer) × IfOk answer (λ stop. IfSome stop (StopOffered before.report.offer))

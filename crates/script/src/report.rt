@@ -5,6 +5,7 @@ ghost use Rattle.std.specs.Prelude.{◌≡◌};
 
 use crate::expected::Expected;
 use crate::notation::Shown;
+use crate::offer::Offer;
 use std::alloc::{AllocError, Global};
 use std::fmt;
 use vocabulary::effects::Effect;
@@ -85,14 +86,19 @@ impl From<AllocError> for Refusal {
 /// The answers to the lines of a script.
 #[derive(Drop)]
 pub struct Report {
+    /// The calls that were on offer.
+    pub offer: Offer,
     pub text: String,
     /// Whether a line had no answer but an error. A flag of its own: the text is printed either way, and this is the program's status.
     pub failed: bool,
 }
 
 impl Report {
-    pub(crate) fn new(heap: Global) -> Report {
+    pub(crate) fn new(heap: Global, offer: Offer) -> Report
+        ensures { result.offer ≡ offer }
+    {
         Report {
+            offer,
             text: String::new(heap),
             failed: false,
         }
@@ -103,12 +109,16 @@ impl Report {
         &mut self,
         line: Line,
         answer: &impl fmt::Display,
-    ) -> Result<(), AllocError> {
+    ) -> Result<(), AllocError>
+        ensures { self.new.offer ≡ self.old.offer }
+    {
         writeln!(self.text, "{} => {answer}", line.call)
     }
 
     /// Writes why a line has no answer, unless memory ran out.
-    pub(crate) fn refuse(&mut self, line: Line, refusal: Refusal) -> Result<(), AllocError> {
+    pub(crate) fn refuse(&mut self, line: Line, refusal: Refusal) -> Result<(), AllocError>
+        ensures { self.new.offer ≡ self.old.offer }
+    {
         let Line { number, call } = line;
         match refusal {
             Refusal::Fault(fault) => writeln!(self.text, "{call} => fault {}", u8::from(fault)),

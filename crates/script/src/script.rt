@@ -3,7 +3,9 @@
 //! Drafts, books and stores borrow their tables, so each stands within a function that goes through the lines of a section.
 //! A section ends where a draft is opened or sealed or a store is made; one function serves all sections.
 
+ghost use Rattle.facts.specs.Passes.{ListPlaces};
 ghost use Rattle.script.specs.declared.offer.Offer.TheVariants as offers;
+ghost use Rattle.script.specs.Makings.{BitNames};
 ghost use Rattle.script.specs.Offers.{KeepsOffer, Offered};
 ghost use Rattle.script.specs.Sections.{GoesTo, Kept};
 ghost use Rattle.std.specs.Prelude.{◌≡◌, IfOk};
@@ -27,14 +29,15 @@ use facts::source::Store;
 use std::alloc::{AllocError, Global};
 
 /// Answers the calls of a script, of those on offer.
-pub fn run(heap: Global, text: &str, offer: Offer) -> Result<Report, AllocError> {
+pub fn run(heap: Global, text: &str, offer: Offer) -> Result<Report, AllocError>
+    ensures { IfOk result (λ report. report.offer ≡ offer) }
+{
     let lines = calls_in(heap, text)?;
     let mut session = Session {
         heap,
-        offer,
         lines: lines.iter(),
         stock: None,
-        report: Report::new(heap),
+        report: Report::new(heap, offer),
     };
     let mut stop = session.over(&mut NoDraft)?;
     while let Some(Stop::Family(opening)) = stop {
@@ -117,23 +120,48 @@ impl<'a> Session<'a> {
             return self.section(rules, &mut NoStore);
         };
         match stock.making {
-            Making::List(count) => {
-                let mut table = places(self.heap, count)?;
-                let pass = ListPass::test(&table).unwrap();
-                let mut held = Held {
-                    store: ListStore::new(pass, &mut table),
-                };
-                self.stored(rules, &mut held, stock)
-            }
-            Making::Bits(names) => {
-                let mut table = bytes(self.heap, names)?;
-                let pass = BitPass::test(names, &table).unwrap();
-                let mut held = Held {
-                    store: BitStore::new(pass, &mut table),
-                };
-                self.stored(rules, &mut held, stock)
-            }
+            Making::List(count) => self.over_list(rules, count, stock),
+            Making::Bits(names) => self.over_bits(rules, names, stock),
         }
+    }
+
+    // Each make has a function of its own, since a function pays at entry for its locals, and a bit store is a large one.
+    /// Answers the lines of a section over a list store.
+    fn over_list<R: Rules>(
+        &mut self,
+        rules: &mut R,
+        count: usize,
+        stock: Stock,
+    ) -> Result<Option<Stop<'a>>, AllocError>
+        requires { (self.old.report.offer ≡ offers.Facts) × ListPlaces count }
+        ensures goes { GoesTo self.old self.new result }
+        ensures offer { KeepsOffer self.old self.new result }
+    {
+        let mut table = places(self.heap, count)?;
+        let pass = ListPass::test(&table).unwrap();
+        let mut held = Held {
+            store: ListStore::new(pass, &mut table),
+        };
+        self.stored(rules, &mut held, stock)
+    }
+
+    /// Answers the lines of a section over a bit store.
+    fn over_bits<R: Rules>(
+        &mut self,
+        rules: &mut R,
+        names: usize,
+        stock: Stock,
+    ) -> Result<Option<Stop<'a>>, AllocError>
+        requires { (self.old.report.offer ≡ offers.Facts) × BitNames names }
+        ensures goes { GoesTo self.old self.new result }
+        ensures offer { KeepsOffer self.old self.new result }
+    {
+        let mut table = bytes(self.heap, names)?;
+        let pass = BitPass::test(names, &table).unwrap();
+        let mut held = Held {
+            store: BitStore::new(pass, &mut table),
+        };
+        self.stored(rules, &mut held, stock)
     }
 
     /// Answers the lines of a section over a store, and keeps what it then lists.
@@ -143,7 +171,7 @@ impl<'a> Session<'a> {
         held: &mut Held<S>,
         mut stock: Stock,
     ) -> Result<Option<Stop<'a>>, AllocError>
-        requires { self.old.offer ≡ offers.Facts }
+        requires { self.old.report.offer ≡ offers.Facts }
         ensures goes { GoesTo self.old self.new result }
         ensures offer { KeepsOffer self.old self.new result }
         ensures kept { IfOk result (λ _. Kept (S.Source.facts held.new.store) self.new.stock) }
@@ -184,7 +212,7 @@ impl<'a> Session<'a> {
         ensures lines { iter_rest self.new.lines ≡ iter_rest self.old.lines }
         ensures offer { KeepsOffer self.old self.new result }
     {
-        let call = Call::read(line.call, self.offer)?;
+        let call = Call::read(line.call, self.report.offer)?;
         self.called(line, call, rules, shelf)
     }
 
@@ -196,7 +224,7 @@ impl<'a> Session<'a> {
         rules: &mut R,
         shelf: &mut F,
     ) -> Result<Option<Stop<'a>>, Refusal>
-        requires { Offered self.old.offer call }
+        requires { Offered self.old.report.offer call }
         ensures lines { iter_rest self.new.lines ≡ iter_rest self.old.lines }
         ensures offer { KeepsOffer self.old self.new result }
     {

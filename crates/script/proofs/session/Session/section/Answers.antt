@@ -11,4 +11,4 @@ returns-in-Ok-Some-clause-goes g c = one _ _ _ _ _ c.loop-line.invariant.0 c.in-
 
 pub loop-line-preserved : goal.loop-line-preserved
 loop-line-preserved g c =
-    (onward _ _ (one _ _ _ _ _ c.loop-line.invariant.0 c.in-Some.ensures.steps c.answer.ensures.lines), c.answer.ensures.offer.0 ∙ c.loop-line.invariant.1)
+    (onward _ _ (one _ _ _ _ _ c.loop-line.invariant.0 c.in-Some.ensures.steps c.answer.ensures.lines), c.refuse.ensures ∙ c.answer.ensures.offer.0 ∙ c.loop-line.invariant.1)
